@@ -1,0 +1,21 @@
+//! A second watch, written from document 01 alone.
+//!
+//! It shares no code, no algorithm and no representation with the proved library: what it holds are the two sets of
+//! configurations themselves. [`ages`] writes such a set down age by age and is as plain as the document. [`spells`]
+//! holds, for each state, the spells of ages at which it is held; it takes horizons of any size. Both are run by
+//! [`watch`], which reads a whole session and prints its lines, and the tests hold the one to the other.
+//!
+//! [`kinds`] makes sessions from a seed, and [`compare`] runs a given program over them.
+
+pub mod ages;
+pub mod compare;
+pub mod draft;
+pub mod faults;
+pub mod goals;
+pub mod kinds;
+pub mod make;
+pub mod random;
+pub mod session;
+pub mod spells;
+pub mod table;
+pub mod watch;

@@ -1,0 +1,259 @@
+//! Demands 1 to 3 by brute force on tiny tables: every run of 001 is written out, and after a gap every set of
+//! configurations is followed on its own. Every word of a small alphabet is tried, refused symbols among them.
+
+use oracle::ages::Ages;
+use oracle::draft::{line, TableDraft, NONE};
+use oracle::random::Random;
+use oracle::session::Symbol::{self, Gap, Letter, Span};
+use oracle::spells::Spells;
+use oracle::table::Table;
+use oracle::watch::{Answer, Configurations, Verdict, Watch};
+use std::collections::BTreeSet;
+
+/// A state and its true age.
+type Configuration = (usize, u64);
+
+/// A tiny table: at most two states, two letters, four lines, ages of at most `top`.
+fn tiny(random: &mut Random, top: u64) -> TableDraft {
+    let states = random.from(1, 2) as u8;
+    let letters = random.from(1, 2) as u8;
+    let mut lines = Vec::new();
+    for _ in 0..random.from(0, 4) {
+        let (a, b) = (random.from(0, top) as u32, random.from(0, top) as u32);
+        lines.push(line(
+            random.from(0, u64::from(states) - 1) as u8,
+            random.from(0, u64::from(letters) - 1) as u8,
+            random.from(0, u64::from(states) - 1) as u8,
+            random.from(0, 1) as u8,
+            a.min(b),
+            if random.one_in(3) { NONE } else { a.max(b) },
+        ));
+    }
+    TableDraft {
+        version: 1,
+        length: None,
+        states,
+        letters,
+        initial: random.states(states, 2),
+        standing: random.states(states, 3),
+        accepting: random.states(states, 2),
+        lines,
+    }
+}
+
+fn has(set: u16, state: usize) -> bool {
+    set >> state & 1 == 1
+}
+
+/// The configurations that one step leads to, as 001 says it.
+fn steps(table: &Table, (state, age): Configuration, symbol: Symbol) -> Vec<Configuration> {
+    match symbol {
+        Span(seconds) => vec![(state, age + u64::from(seconds))],
+        Letter(letter) => (table.lines.iter())
+            .filter(|line| line.from == state && line.letter == letter && line.admits(age))
+            .map(|line| (line.to, if line.resets { 0 } else { age }))
+            .collect(),
+        Gap => unreachable!("a run has no gap"),
+    }
+}
+
+/// All runs over a word, each as the chain of its configurations: from the start in an initial state, or from directly
+/// after a letter in a standing state, in both cases at age 0.
+fn runs(table: &Table, word: &[Symbol]) -> Vec<Vec<Configuration>> {
+    let mut whole = Vec::new();
+    for begin in 0..=word.len() {
+        let may_begin = match begin {
+            0 => table.initial,
+            _ if matches!(word[begin - 1], Letter(_)) => table.standing,
+            _ => 0,
+        };
+        let mut chains: Vec<Vec<Configuration>> = (0..table.states)
+            .filter(|&state| has(may_begin, state))
+            .map(|state| vec![(state, 0)])
+            .collect();
+        for &symbol in &word[begin..] {
+            chains = (chains.iter())
+                .flat_map(|chain| {
+                    let ends = steps(table, *chain.last().unwrap(), symbol);
+                    ends.into_iter()
+                        .map(|end| [chain.as_slice(), &[end]].concat())
+                })
+                .collect();
+        }
+        whole.extend(chains);
+    }
+    whole
+}
+
+fn accepting(table: &Table, set: &BTreeSet<Configuration>) -> bool {
+    set.iter().any(|&(state, _)| has(table.accepting, state))
+}
+
+/// The longest runs of consecutive ages in 0 to H with the same pair and a non-empty possible set.
+fn longest_runs(
+    table: &Table,
+    sure: &BTreeSet<Configuration>,
+    possible: &BTreeSet<Configuration>,
+) -> usize {
+    let at = |set: &BTreeSet<Configuration>, age| -> Vec<usize> {
+        (0..table.states)
+            .filter(|&state| set.contains(&(state, age)))
+            .collect()
+    };
+    let pair = |age| (at(sure, age), at(possible, age));
+    (0..=table.horizon)
+        .filter(|&age| !pair(age).1.is_empty())
+        .filter(|&age| age == 0 || pair(age - 1) != pair(age))
+        .count()
+}
+
+/// What a call with this symbol must be refused for whatever was before it.
+fn bad_symbol(table: &Table, symbol: Symbol) -> Option<u8> {
+    match symbol {
+        Letter(letter) if letter >= table.letters => Some(9),
+        Span(0) => Some(10),
+        _ => None,
+    }
+}
+
+fn start<S: Configurations>(draft: &TableDraft, room: u8) -> Watch<S> {
+    Watch::start(&draft.bytes(), room).expect("a table in order")
+}
+
+/// Follows every word of this depth, holding the watch to all runs over the symbols accepted so far.
+fn follow_runs<S: Configurations>(watch: &Watch<S>, word: &[Symbol], depth: usize) -> usize {
+    let ends: BTreeSet<_> = (runs(&watch.table, word).iter())
+        .map(|run| *run.last().unwrap())
+        .collect();
+    let expected = Answer::Stands {
+        verdict: match accepting(&watch.table, &ends) {
+            true => Verdict::Yes,
+            false => Verdict::No,
+        },
+        settled: true,
+        count: longest_runs(&watch.table, &ends, &ends),
+    };
+    assert_eq!(watch.answer(), expected, "{:?} after {word:?}", watch.table);
+    if depth == 0 {
+        return 1;
+    }
+    let mut looked = 1;
+    for symbol in [Letter(0), Letter(1), Letter(2), Span(1), Span(2), Span(0)] {
+        let mut next = watch.clone();
+        let longer = [word, &[symbol]].concat();
+        let refusal = bad_symbol(&watch.table, symbol).or_else(|| {
+            let ends = runs(&watch.table, &longer).into_iter();
+            let ends: BTreeSet<_> = ends.map(|run| *run.last().unwrap()).collect();
+            let crowded = longest_runs(&watch.table, &ends, &ends) > watch.room;
+            Some(11).filter(|_| matches!(symbol, Letter(_)) && crowded)
+        });
+        assert_eq!(next.take(symbol), refusal.map_or(Ok(()), Err));
+        let accepted = if refusal.is_none() { &longer } else { word };
+        looked += follow_runs(&next, accepted, depth - 1);
+    }
+    looked
+}
+
+#[test]
+fn without_a_gap_the_verdict_is_that_of_all_runs() {
+    for number in 0..200 {
+        let mut random = Random::new(7, "runs", number);
+        let draft = tiny(&mut random, 3);
+        let room = random.pick(&[1, 1, 2, 3, 64]);
+        let by_ages = follow_runs(&start::<Ages>(&draft, room), &[], 4);
+        let by_spells = follow_runs(&start::<Spells>(&draft, room), &[], 4);
+        assert_eq!((by_ages, by_spells), (1 + 6 + 36 + 216 + 1296, by_ages));
+    }
+}
+
+/// One step of a whole set, with true ages, as document 01 says it.
+fn stepped(
+    table: &Table,
+    set: &BTreeSet<Configuration>,
+    symbol: Symbol,
+) -> BTreeSet<Configuration> {
+    let mut after: BTreeSet<_> = set.iter().flat_map(|&c| steps(table, c, symbol)).collect();
+    if matches!(symbol, Letter(_)) {
+        let standing = (0..table.states).filter(|&state| has(table.standing, state));
+        after.extend(standing.map(|state| (state, 0)));
+    }
+    after
+}
+
+/// The set with all ages above the horizon counted as one.
+fn clipped(table: &Table, set: &BTreeSet<Configuration>) -> BTreeSet<Configuration> {
+    let clip = |&(state, age): &Configuration| (state, age.min(table.horizon + 1));
+    set.iter().map(clip).collect()
+}
+
+/// All sets of configurations over the table's states and the ages 0 to H + 2: two ages above H, so that taking them
+/// as one is looked at too. The empty set is the first.
+fn all_sets(table: &Table) -> Vec<BTreeSet<Configuration>> {
+    let ages = 0..=table.horizon + 2;
+    let all: Vec<Configuration> = ages
+        .flat_map(|age| (0..table.states).map(move |state| (state, age)))
+        .collect();
+    let chosen = |bits: u32| -> BTreeSet<Configuration> {
+        (all.iter().enumerate())
+            .filter(|(place, _)| bits >> place & 1 == 1)
+            .map(|(_, &configuration)| configuration)
+            .collect()
+    };
+    (0..1 << all.len()).map(chosen).collect()
+}
+
+/// Follows every word after a gap, holding the watch to all sets that may have stood at the gap's end.
+fn follow_sets<S: Configurations>(
+    watch: &Watch<S>,
+    sets: &[BTreeSet<Configuration>],
+    depth: usize,
+) -> usize {
+    let table = &watch.table;
+    let clip: BTreeSet<_> = sets.iter().map(|set| clipped(table, set)).collect();
+    let (verdict, settled) = match watch.answer() {
+        Answer::Stands {
+            verdict, settled, ..
+        } => (verdict, settled),
+        Answer::Refused(_) => unreachable!("a question is not refused here"),
+    };
+    let accept = sets.iter().filter(|set| accepting(table, set)).count();
+    let expected = match accept {
+        0 => Verdict::No,
+        _ if accept == sets.len() => Verdict::Yes,
+        _ => Verdict::Unsure,
+    };
+    assert_eq!(verdict, expected, "{table:?}");
+    assert_eq!(settled, clip.len() == 1, "{table:?}");
+    if depth == 0 {
+        return 1;
+    }
+    let mut looked = 1;
+    for symbol in [Letter(0), Letter(1), Span(1), Span(2)] {
+        let mut next = watch.clone();
+        let after: Vec<_> = match next.take(symbol) {
+            Ok(()) => sets.iter().map(|set| stepped(table, set, symbol)).collect(),
+            Err(_) => sets.to_vec(),
+        };
+        looked += follow_sets(&next, &after, depth - 1);
+    }
+    looked
+}
+
+#[test]
+fn after_a_gap_the_verdict_is_that_of_all_sets() {
+    for number in 0..80 {
+        let mut random = Random::new(7, "sets", number);
+        let draft = tiny(&mut random, 1);
+        let room = random.pick(&[1, 2, 64, 64]);
+        let mut by_ages = start::<Ages>(&draft, room);
+        let mut by_spells = start::<Spells>(&draft, room);
+        let sets = all_sets(&by_ages.table);
+        // what came before the gap does not matter
+        for symbol in [Letter(0), Span(1), Gap] {
+            assert_eq!(by_ages.take(symbol), by_spells.take(symbol));
+        }
+        let looked = follow_sets(&by_ages, &sets, 4);
+        assert_eq!(looked, follow_sets(&by_spells, &sets, 4));
+        assert_eq!(looked, 1 + 4 + 16 + 64 + 256);
+    }
+}

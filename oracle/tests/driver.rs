@@ -1,0 +1,112 @@
+//! The comparison fails where it should: on a program that prints something else, ends badly or cannot be run, and on
+//! words that make no sense.
+
+use std::process::{Command, Output, Stdio};
+
+const ORACLE: &str = env!("CARGO_BIN_EXE_oracle");
+
+fn oracle(words: &[&str]) -> Output {
+    Command::new(ORACLE)
+        .args(words)
+        .stdin(Stdio::null())
+        .output()
+        .unwrap()
+}
+
+/// The comparison over the least number of sessions of each kind.
+fn compared(program: &[&str]) -> (Option<i32>, String) {
+    let mut words = vec!["compare", "--seed", "3"];
+    let counts: Vec<String> = (oracle::kinds::KINDS.iter())
+        .map(|kind| format!("{}={}", kind.name, kind.least))
+        .collect();
+    for count in &counts {
+        words.extend(["--of", count]);
+    }
+    words.push("--");
+    words.extend(program);
+    let output = oracle(&words);
+    (
+        output.status.code(),
+        String::from_utf8(output.stdout).unwrap(),
+    )
+}
+
+#[test]
+fn a_right_program_passes() {
+    let (status, text) = compared(&[ORACLE, "watch"]);
+    assert_eq!(status, Some(0), "{text}");
+    assert!(
+        text.ends_with(" sessions alike, 0 kinds failed\n"),
+        "{text}"
+    );
+}
+
+#[test]
+fn a_program_that_prints_something_else_is_shown() {
+    let wrong = format!("{ORACLE} watch | sed 's/unsure open/no open/'");
+    let (status, text) = compared(&["sh", "-c", &wrong]);
+    assert_eq!(status, Some(1));
+    assert!(text.contains("gaps     FAILED"), "{text}");
+    assert!(text.contains("kind gaps, seed 3, session "), "{text}");
+    assert!(text.contains("-- expected\n0 "), "{text}");
+    assert!(text.contains("-- printed\n0 "), "{text}");
+    assert!(text.contains("\n01 "), "the session in hexadecimal: {text}");
+    assert!(!text.ends_with(" 0 kinds failed\n"), "{text}");
+}
+
+#[test]
+fn a_program_that_prints_nothing_fails() {
+    let (status, text) = compared(&["true"]);
+    assert_eq!(status, Some(1));
+    assert!(text.contains("differs after 0 lines"), "{text}");
+    assert!(
+        text.ends_with("0 sessions alike, 11 kinds failed\n"),
+        "{text}"
+    );
+}
+
+#[test]
+fn a_program_that_ends_badly_fails() {
+    let right_but = format!("{ORACLE} watch; exit 3");
+    let (status, text) = compared(&["sh", "-c", &right_but]);
+    assert_eq!(status, Some(1));
+    assert!(text.contains("sh ended with"), "{text}");
+}
+
+#[test]
+fn a_program_that_is_not_there_fails() {
+    let (status, text) = compared(&["./no-such-watch"]);
+    assert_eq!(status, Some(1));
+    assert!(text.contains("cannot run ./no-such-watch"), "{text}");
+}
+
+#[test]
+fn too_few_sessions_are_no_comparison() {
+    let output = oracle(&["compare", "--each", "5", "--", ORACLE, "watch"]);
+    assert_eq!(output.status.code(), Some(1));
+    let text = String::from_utf8(output.stdout).unwrap();
+    assert!(text.contains("rooms: 5 sessions cannot reach"), "{text}");
+}
+
+#[test]
+fn bad_words_are_refused() {
+    let bad: [&[&str]; 10] = [
+        &[],
+        &["watches"],
+        &["watch", "--age"],
+        &["compare"],
+        &["compare", "--"],
+        &["compare", "--each", "many", "--", "true"],
+        &["compare", "--of", "small", "--", "true"],
+        &["compare", "--of", "tiny=5", "--", "true"],
+        &["session", "small", "1"],
+        &["session", "tiny", "1", "1"],
+    ];
+    for words in bad {
+        let output = oracle(words);
+        assert_eq!(output.status.code(), Some(2), "{words:?}");
+        assert!(output.stdout.is_empty(), "{words:?}");
+        let error = String::from_utf8(output.stderr).unwrap();
+        assert!(error.starts_with("oracle: "), "{words:?}: {error}");
+    }
+}
