@@ -1,7 +1,7 @@
 //! Runs a given `watch` over generated sessions and compares what it prints, byte for byte, with this program's lines.
 
-use crate::goals::{Goal, Seen};
-use crate::kinds::{Kind, Session};
+use crate::generate::goals::{Goal, Seen};
+use crate::generate::kinds::{Kind, Session};
 use crate::spells::Spells;
 use crate::watch::{answers, lines, Answer};
 use std::io::{ErrorKind, Read, Write};

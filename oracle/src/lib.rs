@@ -5,16 +5,11 @@
 //! holds, for each state, the spells of ages at which it is held; it takes horizons of any size. Both are run by
 //! [`watch`], which reads a whole session and prints its lines, and the tests hold the one to the other.
 //!
-//! [`kinds`] makes sessions from a seed, and [`compare`] runs a given program over them.
+//! [`generate`] makes sessions from a seed, and [`compare`] runs a given program over them.
 
 pub mod ages;
 pub mod compare;
-pub mod draft;
-pub mod faults;
-pub mod goals;
-pub mod kinds;
-pub mod make;
-pub mod random;
+pub mod generate;
 pub mod session;
 pub mod spells;
 pub mod table;

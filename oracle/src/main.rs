@@ -2,7 +2,7 @@
 
 use oracle::ages::Ages;
 use oracle::compare::{compare, Plan};
-use oracle::kinds::{named, Kind, KINDS};
+use oracle::generate::kinds::{named, Kind, KINDS};
 use oracle::spells::Spells;
 use oracle::watch::{answers, lines};
 use std::io::{Read, Write};

@@ -2,8 +2,8 @@
 //! configurations is followed on its own. Every word of a small alphabet is tried, refused symbols among them.
 
 use oracle::ages::Ages;
-use oracle::draft::{line, TableDraft, NONE};
-use oracle::random::Random;
+use oracle::generate::draft::{line, TableDraft, NONE};
+use oracle::generate::random::Random;
 use oracle::session::Symbol::{self, Gap, Letter, Span};
 use oracle::spells::Spells;
 use oracle::table::Table;

@@ -16,7 +16,7 @@ fn oracle(words: &[&str]) -> Output {
 /// The comparison over the least number of sessions of each kind.
 fn compared(program: &[&str]) -> (Option<i32>, String) {
     let mut words = vec!["compare", "--seed", "3"];
-    let counts: Vec<String> = (oracle::kinds::KINDS.iter())
+    let counts: Vec<String> = (oracle::generate::kinds::KINDS.iter())
         .map(|kind| format!("{}={}", kind.name, kind.least))
         .collect();
     for count in &counts {

@@ -4,7 +4,7 @@
 mod common;
 
 use common::{board, plain, printed, said};
-use oracle::draft::{line, Draft, TableDraft, KEEPS, NONE, RESETS};
+use oracle::generate::draft::{line, Draft, TableDraft, KEEPS, NONE, RESETS};
 use oracle::session::Symbol::{self, Gap, Letter, Span};
 
 /// The first line for a table: its start, or its refusal.

@@ -1,8 +1,8 @@
 //! The generated sessions: the same for the same seed, each kind reaching what it must, and both forms alike on them.
 
 use oracle::ages::Ages;
-use oracle::goals::Seen;
-use oracle::kinds::{named, KINDS};
+use oracle::generate::goals::Seen;
+use oracle::generate::kinds::{named, KINDS};
 use oracle::spells::Spells;
 use oracle::watch::answers;
 

@@ -5,8 +5,8 @@ mod common;
 
 use common::{board, plain, printed};
 use oracle::ages::Ages;
-use oracle::draft::{line, Draft, TableDraft, KEEPS, NONE, RESETS};
-use oracle::kinds::KINDS;
+use oracle::generate::draft::{line, Draft, TableDraft, KEEPS, NONE, RESETS};
+use oracle::generate::kinds::KINDS;
 use oracle::session::Symbol::{self, Gap, Letter, Span};
 use oracle::session::{first, framed};
 use oracle::spells::Spells;

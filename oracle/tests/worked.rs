@@ -3,7 +3,7 @@
 mod common;
 
 use common::{board, board_entries, printed, said};
-use oracle::draft::Draft;
+use oracle::generate::draft::Draft;
 use std::fs;
 
 /// The session as document 01 prints it.

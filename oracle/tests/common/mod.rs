@@ -2,7 +2,7 @@
 #![allow(dead_code)]
 
 use oracle::ages::Ages;
-use oracle::draft::{line, Draft, TableDraft, KEEPS, NONE, RESETS};
+use oracle::generate::draft::{line, Draft, TableDraft, KEEPS, NONE, RESETS};
 use oracle::session::Symbol;
 use oracle::spells::Spells;
 use oracle::watch::{answers, lines};

@@ -1,12 +1,12 @@
 //! The kinds of sessions, each with what it must reach. A session is given by its kind, the seed and its number.
 
-use crate::faults::{pair, single, Faulty, PAIRS, SINGLES};
-use crate::goals::{
+use crate::generate::faults::{pair, single, Faulty, PAIRS, SINGLES};
+use crate::generate::goals::{
     count_none, count_of, every_word, every_word_after_gap, frame_refused, horizon_of,
     into_room_and_out, read_whole, refused, span_taken, unreadable_after, Goal,
 };
-use crate::make;
-use crate::random::Random;
+use crate::generate::make;
+use crate::generate::random::Random;
 use crate::session::LONGEST;
 use crate::table::GREATEST;
 use crate::watch::Answer;

@@ -1,7 +1,9 @@
 //! Random tables, entries and sessions.
 
-use crate::draft::{entry_bytes, line, Draft, LineDraft, TableDraft, KEEPS, NONE, RESETS};
-use crate::random::Random;
+use crate::generate::draft::{
+    entry_bytes, line, Draft, LineDraft, TableDraft, KEEPS, NONE, RESETS,
+};
+use crate::generate::random::Random;
 use crate::session::{Symbol, LONGEST};
 use crate::table::GREATEST;
 
@@ -63,31 +65,35 @@ fn random_table(random: &mut Random, size: &Size) -> TableDraft {
 /// How a session's entries are drawn.
 struct Habit {
     entries: u64,
-    letters: u8,
     /// One entry in so many is a gap.
     gap: u64,
     /// Spans lie around this one.
     span: u32,
 }
 
-fn random_entry(random: &mut Random, habit: &Habit) -> Symbol {
+fn random_entry(random: &mut Random, letters: u8, habit: &Habit) -> Symbol {
     if random.one_in(habit.gap) {
         return Symbol::Gap;
     }
     match random.from(0, 19) {
-        0 => Symbol::Letter(random.from(u64::from(habit.letters), 255) as u8),
+        0 => Symbol::Letter(random.from(u64::from(letters), 255) as u8),
         1 => Symbol::Span(random.pick(&[0, LONGEST_SPAN + 1, u32::MAX])),
         2 => Symbol::Span(random.pick(&[LONGEST_SPAN, habit.span, habit.span + 1])),
         3..=7 => Symbol::Span(random.from(1, u64::from(habit.span)) as u32),
         8 => Symbol::Span(1),
-        _ => Symbol::Letter(below(random, habit.letters)),
+        _ => Symbol::Letter(below(random, letters)),
     }
 }
 
-fn random_entries(random: &mut Random, habit: &Habit) -> Vec<Symbol> {
-    (0..habit.entries)
-        .map(|_| random_entry(random, habit))
-        .collect()
+impl Draft {
+    /// The draft with entries more, over its table's letters.
+    fn going_on(mut self, random: &mut Random, habit: &Habit) -> Draft {
+        for _ in 0..habit.entries {
+            let symbol = random_entry(random, self.table.letters, habit);
+            self.entries.push(symbol);
+        }
+        self
+    }
 }
 
 fn random_room(random: &mut Random) -> u8 {
@@ -98,6 +104,10 @@ fn random_room(random: &mut Random) -> u8 {
     }
 }
 
+fn random_start(random: &mut Random, size: &Size) -> Draft {
+    Draft::new(random_room(random), random_table(random, size), Vec::new())
+}
+
 /// Small horizons: all that can happen, happens soon.
 pub fn small(random: &mut Random, _: usize) -> Draft {
     let size = Size {
@@ -106,32 +116,22 @@ pub fn small(random: &mut Random, _: usize) -> Draft {
         lines: random.from(0, 8),
         top: random.from(0, 8) as u32,
     };
-    let table = random_table(random, &size);
     let habit = Habit {
         entries: random.from(0, 60),
-        letters: size.letters,
         gap: 25,
         span: size.top / 2 + 1,
     };
-    Draft::new(random_room(random), table, random_entries(random, &habit))
+    random_start(random, &size).going_on(random, &habit)
 }
 
 /// Many gaps, some directly after another.
-pub fn gaps(random: &mut Random, _: usize) -> Draft {
-    let size = Size {
-        states: random.from(1, 5) as u8,
-        letters: random.from(1, 2) as u8,
-        lines: random.from(1, 10),
-        top: random.from(0, 12) as u32,
-    };
-    let table = random_table(random, &size);
+pub fn gaps(random: &mut Random, number: usize) -> Draft {
     let habit = Habit {
-        entries: random.from(10, 60),
-        letters: size.letters,
-        gap: 6,
-        span: size.top / 2 + 1,
+        entries: random.from(10, 50),
+        gap: 5,
+        span: random.from(1, 7) as u32,
     };
-    Draft::new(random_room(random), table, random_entries(random, &habit))
+    small(random, number).going_on(random, &habit)
 }
 
 fn with_top(random: &mut Random, top: u32, entries: u64) -> Draft {
@@ -141,17 +141,16 @@ fn with_top(random: &mut Random, top: u32, entries: u64) -> Draft {
         lines: random.from(1, 14),
         top,
     };
-    let mut table = random_table(random, &size);
-    // the horizon is as large as is meant
-    table.lines[0].least = 0;
-    table.lines[0].greatest = top;
     let habit = Habit {
         entries,
-        letters: size.letters,
         gap: 12,
         span: random.sized(1, u64::from(top)) as u32,
     };
-    Draft::new(random_room(random), table, random_entries(random, &habit))
+    let mut draft = random_start(random, &size);
+    // the horizon is as large as is meant
+    draft.table.lines[0].least = 0;
+    draft.table.lines[0].greatest = top;
+    draft.going_on(random, &habit)
 }
 
 /// Horizons of 1,000 to 300,000 seconds.
@@ -176,24 +175,22 @@ pub fn year(random: &mut Random, number: usize) -> Draft {
 
 /// All states, letters and lines that a table can have. Every other session first fills all 64 stretches.
 pub fn heavy(random: &mut Random, number: usize) -> Draft {
-    let mut draft = if number % 2 == 1 {
-        crowded(random, 64, 16, 62)
-    } else {
-        let size = Size {
-            states: 16,
-            letters: random.from(1, 3) as u8,
-            lines: 64,
-            top: random.sized(40, 4_000) as u32,
-        };
-        Draft::new(random_room(random), random_table(random, &size), Vec::new())
+    let size = Size {
+        states: 16,
+        letters: random.from(1, 3) as u8,
+        lines: 64,
+        top: random.sized(40, 4_000) as u32,
     };
     let habit = Habit {
         entries: random.from(20, 60),
-        letters: draft.table.letters,
         gap: 20,
         span: random.sized(1, 1_000) as u32,
     };
-    draft.entries.extend(random_entries(random, &habit));
+    let start = match number % 2 {
+        0 => random_start(random, &size),
+        _ => crowded(random, 64, 16, 62),
+    };
+    let mut draft = start.going_on(random, &habit);
     draft.table.letters = 32;
     // of so many states some would nearly always accept
     draft.table.accepting = random.states(16, 8);
@@ -239,11 +236,10 @@ pub fn rooms(random: &mut Random, number: usize) -> Draft {
     for _ in 0..random.from(1, 3) {
         let habit = Habit {
             entries: random.from(0, 6),
-            letters: 3,
             gap: 8,
             span: 3,
         };
-        draft.entries.extend(random_entries(random, &habit));
+        draft = draft.going_on(random, &habit);
         let waits = Symbol::Span(random.from(200, 4_000) as u32);
         draft.entries.push(random.pick(&[Symbol::Letter(2), waits]));
         draft.entries.push(Symbol::Letter(0));
@@ -259,24 +255,19 @@ pub fn long(random: &mut Random, number: usize) -> Draft {
         2 => LONGEST - 1,
         _ => random.from(2_000, 40_000) as usize,
     };
-    let mut draft = small(random, number);
     let habit = Habit {
         entries: 1,
-        letters: draft.table.letters,
         gap: 40,
         span: 3,
     };
+    let mut draft = small(random, number);
     let mut filled = draft.bytes().len();
-    while filled + 8 < size {
-        let symbol = random_entry(random, &habit);
-        filled += entry_bytes(symbol).len();
-        draft.entries.push(symbol);
-    }
-    // letters have three bytes and gaps two: any rest from 2 on can be filled
     while filled + 1 < size {
+        // letters have three bytes and gaps two: any rest from 2 on can be filled
         let symbol = match size - filled {
-            rest if rest % 2 == 1 => Symbol::Letter(0),
-            _ => Symbol::Gap,
+            2 | 4 | 6 | 8 => Symbol::Gap,
+            3 | 5 | 7 => Symbol::Letter(0),
+            _ => random_entry(random, draft.table.letters, &habit),
         };
         filled += entry_bytes(symbol).len();
         draft.entries.push(symbol);

@@ -1,9 +1,9 @@
 //! Sessions with one fault, or with two, and the number that document 01 gives each: read off the order of its
 //! checks, not asked of any watch.
 
-use crate::draft::{line, Draft, TableDraft, KEEPS, NONE, RESETS};
-use crate::make::{crowded_small, LONGEST_SPAN};
-use crate::random::Random;
+use crate::generate::draft::{line, Draft, TableDraft, KEEPS, NONE, RESETS};
+use crate::generate::make::{crowded_small, LONGEST_SPAN};
+use crate::generate::random::Random;
 use crate::session::{Symbol, LONGEST};
 use crate::table::GREATEST;
 
