@@ -19,32 +19,28 @@ pub const SINGLES: usize = 12;
 /// Number `1 + number mod 12` alone.
 pub fn single(random: &mut Random, number: usize) -> Faulty {
     let fault = (number % SINGLES) as u8 + 1;
-    if fault <= 8 {
-        let mut draft = sound(random);
-        spoil_start(random, &mut draft, fault);
-        return at_start(draft, fault);
-    }
-    let mut draft = if fault == 11 {
-        let room = random.from(1, 6) as u8;
-        crowded_small(random, room)
-    } else {
-        sound(random)
+    let mut draft = match fault {
+        9..=11 => last_refused(random, fault),
+        _ => sound(random),
     };
-    if fault == 12 && random.one_in(2) {
-        spoil_frame(random, &mut draft);
-        return at_start(draft, 12);
-    }
-    match fault {
-        9 => draft.entries.push(bad_letter(random)),
-        10 => draft.entries.push(bad_span(random)),
-        12 => draft.tail = unreadable(random),
-        _ => {}
-    }
-    let ordinal = draft.entries.len() + usize::from(fault == 12);
-    if fault < 12 {
-        // the session goes on
-        draft.entries.push(Symbol::Span(1));
-    }
+    let ordinal = match fault {
+        1..=8 => {
+            spoil_start(random, &mut draft, fault);
+            0
+        }
+        9..=11 => {
+            draft.entries.push(Symbol::Span(1));
+            draft.entries.len() - 1
+        }
+        _ if random.one_in(2) => {
+            spoil_frame(random, &mut draft);
+            0
+        }
+        _ => {
+            draft.tail = unreadable(random);
+            draft.entries.len() + 1
+        }
+    };
     Faulty {
         draft,
         refusals: vec![(ordinal, fault)],
@@ -83,10 +79,8 @@ pub fn pair(random: &mut Random, number: usize) -> Faulty {
         }
         (1..=8, _) => {
             // a start that is refused ends the session before the other fault
-            let mut draft = sound(random);
+            let mut draft = last_refused(random, b);
             spoil_start(random, &mut draft, a);
-            draft.entries.insert(0, bad_letter(random));
-            draft.entries.insert(0, bad_span(random));
             at_start(draft, a)
         }
         _ => at_entry(random, a, b),
@@ -115,6 +109,20 @@ fn sound(random: &mut Random) -> Draft {
         .map(|_| random.pick(&[Symbol::Letter(1), Symbol::Span(age), Symbol::Gap]))
         .collect();
     Draft::new(64, table, entries)
+}
+
+/// A session whose last entry, and no other, is refused with this number, 9 to 11.
+fn last_refused(random: &mut Random, number: u8) -> Draft {
+    if number == 11 {
+        let room = random.from(1, 6) as u8;
+        return crowded_small(random, room);
+    }
+    let mut draft = sound(random);
+    draft.entries.push(match number {
+        9 => bad_letter(random),
+        _ => bad_span(random),
+    });
+    draft
 }
 
 /// The draft with one of the faults that a start answers with this number, 1 to 8.
@@ -253,33 +261,41 @@ fn at_start(draft: Draft, number: u8) -> Faulty {
 
 /// A pair of faults of entries, 9 to 12.
 fn at_entry(random: &mut Random, a: u8, b: u8) -> Faulty {
-    let room = random.from(1, 6) as u8;
-    let mut draft = if a == 11 || b == 11 {
-        crowded_small(random, room)
-    } else {
-        sound(random)
+    let mut draft = match (a, b) {
+        (9, 10) => last_refused(random, 9),
+        (_, 11) | (11, _) => last_refused(random, 11),
+        _ => sound(random),
     };
-    let before = draft.entries.len();
-    match (a, b) {
+    let last = draft.entries.len();
+    let refusals = match (a, b) {
         // one after the other, and the session goes on
-        (9, 10) => draft.entries.extend([bad_letter(random), bad_span(random)]),
+        (9, 10) => {
+            draft.entries.push(bad_span(random));
+            vec![(last, 9), (last + 1, 10)]
+        }
         // a bad letter where there is no room, a bad span where there is no room
-        (9, 11) => draft.entries.push(bad_letter(random)),
-        (10, 11) => draft.entries.push(bad_span(random)),
-        // a bad letter, a bad span, a letter without room in an entry that cannot be read
-        (9, 12) => draft.tail = random.pick(&[[1, 1, 255], [3, 1, 255]]).to_vec(),
-        (10, 12) => draft.tail = random.pick(&[[5, 2, 0, 0, 0], [4, 2, 0, 0, 0]]).to_vec(),
+        (9, 11) => {
+            draft.entries.push(bad_letter(random));
+            vec![(last, 11), (last + 1, 9)]
+        }
+        (10, 11) => {
+            draft.entries.push(bad_span(random));
+            vec![(last, 11), (last + 1, 10)]
+        }
+        // a bad letter, a bad span, a letter without room, each in an entry that cannot be read
+        (9, 12) => {
+            draft.tail = random.pick(&[[1, 1, 255], [3, 1, 255]]).to_vec();
+            vec![(last + 1, 12)]
+        }
+        (10, 12) => {
+            draft.tail = random.pick(&[[5, 2, 0, 0, 0], [4, 2, 0, 0, 0]]).to_vec();
+            vec![(last + 1, 12)]
+        }
         _ => {
             draft.entries.pop();
             draft.tail = vec![3, 1, 0];
+            vec![(last, 12)]
         }
-    }
-    let refusals = match (a, b) {
-        (9, 10) => vec![(before + 1, 9), (before + 2, 10)],
-        (9, 11) => vec![(before, 11), (before + 1, 9)],
-        (10, 11) => vec![(before, 11), (before + 1, 10)],
-        (11, 12) => vec![(before, 12)],
-        _ => vec![(before + 1, 12)],
     };
     Faulty { draft, refusals }
 }

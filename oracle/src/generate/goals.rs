@@ -114,9 +114,10 @@ pub fn every_word_after_gap() -> Vec<Goal> {
             (s.answers.iter()).any(|a| is(a, Verdict::No) && is_settled(a, false))
         }),
         goal("a gap settled again by a letter", |s| {
-            s.since_gap()
-                .windows(2)
-                .any(|w| is_settled(&w[0].1, false) && is_settled(&w[1].1, true))
+            s.since_gap().windows(2).any(|w| {
+                let by_letter = matches!(w[1].0, Symbol::Letter(_));
+                is_settled(&w[0].1, false) && by_letter && is_settled(&w[1].1, true)
+            })
         }),
         goal("a gap after a gap", |s| {
             (s.steps.windows(2))
