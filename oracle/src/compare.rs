@@ -5,39 +5,62 @@ use crate::generate::kinds::{Kind, Session};
 use crate::spells::Spells;
 use crate::watch::{answers, lines, Answer};
 use std::io::{ErrorKind, Read, Write};
-use std::process::{Child, Command, Stdio};
+use std::process::{Child, Command, ExitStatus, Stdio};
 use std::sync::atomic::{AtomicUsize, Ordering};
-use std::sync::mpsc::channel;
+use std::sync::mpsc::{channel, Receiver};
 use std::sync::Mutex;
-use std::time::Duration;
+use std::time::{Duration, Instant};
 
-/// A program that prints nothing more for so long hangs.
-const PATIENCE: Duration = Duration::from_secs(300);
-
-/// What is compared: sessions 0 to `sessions` of a kind, made from the seed, over a program with its arguments.
+/// What is compared: so many sessions of a kind, made from the seed, over a program with its words.
 pub struct Plan<'a> {
     pub kind: &'static Kind,
     pub sessions: usize,
     pub seed: u64,
     pub program: &'a [String],
+    /// A program that has not ended a session after this time hangs.
+    pub patience: Duration,
 }
 
-/// What came of it: the lines compared, or why the comparison fails.
-pub type Outcome = Result<usize, String>;
+/// Why a comparison fails.
+pub struct Failure {
+    pub why: String,
+    /// The program did not end: there is no use in going on with it.
+    pub hangs: bool,
+}
+
+impl From<String> for Failure {
+    fn from(why: String) -> Failure {
+        Failure { why, hangs: false }
+    }
+}
+
+impl Failure {
+    /// The failure, told with the session that it came of.
+    fn at(self, place: &str, session: &Session) -> Failure {
+        Failure {
+            why: format!("{place}: {}\n{}", self.why, hex(&session.bytes)),
+            hangs: self.hangs,
+        }
+    }
+}
+
+/// The lines compared, or why the comparison fails.
+pub type Outcome = Result<usize, Failure>;
 
 /// Compares all sessions of a plan, on all processors, and looks whether the kind's goals were reached.
 pub fn compare(plan: &Plan) -> Outcome {
     if plan.sessions < plan.kind.least {
-        return Err(format!(
+        let few = format!(
             "{}: {} sessions cannot reach the kind's goals, it takes {}",
             plan.kind.name, plan.sessions, plan.kind.least
-        ));
+        );
+        return Err(few.into());
     }
     let goals = (plan.kind.goals)();
     let reached: Vec<AtomicUsize> = goals.iter().map(|_| AtomicUsize::new(0)).collect();
     let compared = AtomicUsize::new(0);
     let next = AtomicUsize::new(0);
-    let first_failure: Mutex<Option<(usize, String)>> = Mutex::new(None);
+    let first_failure: Mutex<Option<(usize, Failure)>> = Mutex::new(None);
     let work = || loop {
         let number = next.fetch_add(1, Ordering::SeqCst);
         if number >= plan.sessions || first_failure.lock().unwrap().is_some() {
@@ -77,11 +100,8 @@ pub fn compare(plan: &Plan) -> Outcome {
     if missed.is_empty() {
         Ok(compared.into_inner())
     } else {
-        Err(format!(
-            "{}: no session reached: {}",
-            plan.kind.name,
-            missed.join("; ")
-        ))
+        let missed = missed.join("; ");
+        Err(format!("{}: no session reached: {missed}", plan.kind.name).into())
     }
 }
 
@@ -98,7 +118,7 @@ fn compare_one(
     session: &Session,
     expected: &[Answer],
     number: usize,
-) -> Result<(), String> {
+) -> Result<(), Failure> {
     let expected_lines = lines(expected);
     let place = format!(
         "kind {}, seed {}, session {number} ({} bytes)",
@@ -107,84 +127,113 @@ fn compare_one(
         session.bytes.len()
     );
     if !session.answered_as_stated(expected) {
-        return Err(format!(
-            "{place}: the second program does not refuse as stated, {:?}\n{}\n{expected_lines}",
-            session.refusals,
-            hex(&session.bytes)
-        ));
+        let otherwise = format!(
+            "the second program does not refuse as stated, {:?}\n{expected_lines}",
+            session.refusals
+        );
+        return Err(Failure::from(otherwise).at(&place, session));
     }
     // every fourth session comes one byte at a time
-    let piece = if number % 4 == 3 {
-        1
-    } else {
-        session.bytes.len().max(1)
+    let piece = match number % 4 {
+        3 => 1,
+        _ => session.bytes.len().max(1),
     };
-    let printed = run(plan.program, &session.bytes, piece)
-        .map_err(|why| format!("{place}: {why}\n{}", hex(&session.bytes)))?;
+    let printed = run(plan.program, &session.bytes, piece, plan.patience)
+        .map_err(|failure| failure.at(&place, session))?;
     if printed == expected_lines.as_bytes() {
         return Ok(());
     }
     let printed = String::from_utf8_lossy(&printed);
     let alike = (printed.lines().zip(expected_lines.lines())).take_while(|(a, b)| a == b);
-    Err(format!(
+    Err(Failure::from(format!(
         "{place} differs after {} lines\n{}\n-- expected\n{expected_lines}-- printed\n{printed}",
         alike.count(),
         hex(&session.bytes)
-    ))
+    )))
 }
 
-/// What the program prints when it is fed the input in pieces of this size, if it ends well.
-pub fn run(program: &[String], input: &[u8], piece: usize) -> Result<Vec<u8>, String> {
+/// What the program prints when it is fed the input in pieces of this size, if it ends well and in time.
+fn run(
+    program: &[String],
+    input: &[u8],
+    piece: usize,
+    patience: Duration,
+) -> Result<Vec<u8>, Failure> {
+    let deadline = Instant::now() + patience;
     let mut child = Command::new(&program[0])
         .args(&program[1..])
         .stdin(Stdio::piped())
         .stdout(Stdio::piped())
         .spawn()
         .map_err(|error| format!("cannot run {}: {error}", program[0]))?;
-    let printed = exchange(&mut child, input, piece);
-    if printed.is_err() {
-        // it may have ended already: then there is nothing to stop
-        let _ = child.kill();
+    let printed = exchange(&mut child, input, piece, deadline);
+    let ended = printed.and_then(|printed| Ok((printed, wait(&mut child, deadline)?)));
+    match ended {
+        Ok((printed, status)) if status.success() => Ok(printed),
+        Ok((_, status)) => Err(format!("{} ended with {status}", program[0]).into()),
+        Err(failure) => {
+            // it may have ended by now: then there is nothing to stop
+            let _ = child.kill();
+            let _ = child.wait();
+            Err(failure)
+        }
     }
-    let status = child.wait().map_err(|error| error.to_string())?;
-    let printed = printed?;
-    if status.success() {
-        Ok(printed)
-    } else {
-        Err(format!("{} ended with {status}", program[0]))
+}
+
+fn late() -> Failure {
+    Failure {
+        why: "the program does not end".to_string(),
+        hangs: true,
     }
 }
 
 /// Feeds and reads at the same time, since either side may wait for the other.
-fn exchange(child: &mut Child, input: &[u8], piece: usize) -> Result<Vec<u8>, String> {
-    let mut to = child.stdin.take().ok_or("no standard input")?;
-    let mut from = child.stdout.take().ok_or("no standard output")?;
-    let (done, wait) = channel();
-    std::thread::spawn(move || {
-        let mut printed = Vec::new();
-        let ended = from.read_to_end(&mut printed).map(|_| printed);
-        // nobody waits any more once patience has ended
-        let _ = done.send(ended);
-    });
+fn exchange(
+    child: &mut Child,
+    input: &[u8],
+    piece: usize,
+    deadline: Instant,
+) -> Result<Vec<u8>, Failure> {
+    let mut to = child.stdin.take().expect("a piped input");
+    let mut from = child.stdout.take().expect("a piped output");
     let input = input.to_vec();
-    let feeder = std::thread::spawn(move || {
+    let fed = aside(move || -> std::io::Result<()> {
         for part in input.chunks(piece) {
             match to.write_all(part) {
                 // a program may leave before the end of its input
-                Err(error) if error.kind() == ErrorKind::BrokenPipe => return Ok(()),
+                Err(error) if error.kind() == ErrorKind::BrokenPipe => break,
                 other => other?,
             }
         }
-        Ok::<(), std::io::Error>(())
+        Ok(())
     });
-    let printed = wait
-        .recv_timeout(PATIENCE)
-        .map_err(|_| format!("no end after {} seconds", PATIENCE.as_secs()))?
-        .map_err(|error| format!("cannot read what it prints: {error}"))?;
-    match feeder.join() {
-        Ok(Ok(())) => Ok(printed),
-        Ok(Err(error)) => Err(format!("cannot feed it: {error}")),
-        Err(_) => Err("the feeding thread failed".to_string()),
+    let printed = aside(move || {
+        let mut printed = Vec::new();
+        from.read_to_end(&mut printed).map(|_| printed)
+    });
+    let left = || deadline.saturating_duration_since(Instant::now());
+    let printed = printed.recv_timeout(left()).map_err(|_| late())?;
+    let fed = fed.recv_timeout(left()).map_err(|_| late())?;
+    fed.map_err(|error| format!("cannot feed it: {error}"))?;
+    Ok(printed.map_err(|error| format!("cannot read what it prints: {error}"))?)
+}
+
+/// Does the work on a thread of its own, which is left behind if nobody waits for it any more.
+fn aside<T: Send + 'static>(work: impl FnOnce() -> T + Send + 'static) -> Receiver<T> {
+    let (done, result) = channel();
+    std::thread::spawn(move || {
+        let _ = done.send(work());
+    });
+    result
+}
+
+fn wait(child: &mut Child, deadline: Instant) -> Result<ExitStatus, Failure> {
+    loop {
+        match child.try_wait().map_err(|error| error.to_string())? {
+            Some(status) => return Ok(status),
+            None if Instant::now() >= deadline => return Err(late()),
+            None => std::thread::sleep(Duration::from_micros(200)),
+        }
     }
 }
 

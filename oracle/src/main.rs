@@ -3,17 +3,18 @@
 use oracle::ages::Ages;
 use oracle::compare::{compare, Plan};
 use oracle::generate::kinds::{named, Kind, KINDS};
+use oracle::session::LONGEST;
 use oracle::spells::Spells;
 use oracle::watch::{answers, lines};
 use std::io::{Read, Write};
 use std::process::exit;
-use std::time::Instant;
+use std::time::{Duration, Instant};
 
 const USAGE: &str = "\
 oracle watch [--ages]
     reads a session from standard input and prints its lines;
     --ages: the sets are held age by age
-oracle compare [--seed S] [--each N] [--of KIND=N].. -- PROGRAM [WORD]..
+oracle compare [--seed S] [--each N] [--of KIND=N].. [--patience SECONDS] -- PROGRAM [WORD]..
     runs PROGRAM over generated sessions, N of each kind, and compares what it
     prints with `oracle watch`
 oracle session KIND SEED NUMBER
@@ -66,7 +67,9 @@ fn write_out(bytes: &[u8]) {
 
 fn watch(by_ages: bool) {
     let mut input = Vec::new();
-    if let Err(error) = std::io::stdin().read_to_end(&mut input) {
+    // one byte above the longest session tells enough
+    let mut readable = std::io::stdin().take(LONGEST as u64 + 1);
+    if let Err(error) = readable.read_to_end(&mut input) {
         eprintln!("oracle: cannot read: {error}");
         exit(1);
     }
@@ -90,6 +93,7 @@ fn list_kinds() {
 struct Task {
     seed: u64,
     sessions: Vec<usize>,
+    patience: Duration,
     program: Vec<String>,
 }
 
@@ -97,6 +101,7 @@ fn task(words: &[&str]) -> Task {
     let mut task = Task {
         seed: 1,
         sessions: vec![120; KINDS.len()],
+        patience: Duration::from_secs(120),
         program: Vec::new(),
     };
     let mut of = Vec::new();
@@ -109,6 +114,10 @@ fn task(words: &[&str]) -> Task {
             }
             ["--each", each, more @ ..] => {
                 task.sessions.fill(number_of(each) as usize);
+                rest = more;
+            }
+            ["--patience", seconds, more @ ..] => {
+                task.patience = Duration::from_secs(number_of(seconds));
                 rest = more;
             }
             ["--of", one, more @ ..] => {
@@ -143,6 +152,7 @@ fn compare_all(words: &[&str]) {
             sessions,
             seed: task.seed,
             program: &task.program,
+            patience: task.patience,
         };
         match compare(&plan) {
             Ok(lines) => {
@@ -152,9 +162,12 @@ fn compare_all(words: &[&str]) {
                     kind.name
                 );
             }
-            Err(why) => {
+            Err(failure) => {
                 failed += 1;
-                println!("{:8} FAILED\n{why}", kind.name);
+                println!("{:8} FAILED\n{}", kind.name, failure.why);
+                if failure.hangs {
+                    break;
+                }
             }
         }
     }

@@ -107,10 +107,11 @@ fn longest_runs(
         .count()
 }
 
-/// What a call with this symbol must be refused for whatever was before it.
-fn bad_symbol(table: &Table, symbol: Symbol) -> Option<u8> {
+/// The number that this symbol must be refused with, if any, where so many longest runs would come after it.
+fn refusal<S>(watch: &Watch<S>, symbol: Symbol, count: usize) -> Option<u8> {
     match symbol {
-        Letter(letter) if letter >= table.letters => Some(9),
+        Letter(letter) if letter >= watch.table.letters => Some(9),
+        Letter(_) if count > watch.room => Some(11),
         Span(0) => Some(10),
         _ => None,
     }
@@ -120,36 +121,39 @@ fn start<S: Configurations>(draft: &TableDraft, room: u8) -> Watch<S> {
     Watch::start(&draft.bytes(), room).expect("a table in order")
 }
 
+/// Where the runs over a word end.
+fn ends(table: &Table, word: &[Symbol]) -> BTreeSet<Configuration> {
+    let all = runs(table, word).into_iter();
+    all.map(|run| *run.last().unwrap()).collect()
+}
+
 /// Follows every word of this depth, holding the watch to all runs over the symbols accepted so far.
 fn follow_runs<S: Configurations>(watch: &Watch<S>, word: &[Symbol], depth: usize) -> usize {
-    let ends: BTreeSet<_> = (runs(&watch.table, word).iter())
-        .map(|run| *run.last().unwrap())
-        .collect();
+    let table = &watch.table;
+    let held = ends(table, word);
     let expected = Answer::Stands {
-        verdict: match accepting(&watch.table, &ends) {
+        verdict: match accepting(table, &held) {
             true => Verdict::Yes,
             false => Verdict::No,
         },
         settled: true,
-        count: longest_runs(&watch.table, &ends, &ends),
+        count: longest_runs(table, &held, &held),
     };
-    assert_eq!(watch.answer(), expected, "{:?} after {word:?}", watch.table);
+    assert_eq!(watch.answer(), expected, "{table:?} after {word:?}");
     if depth == 0 {
         return 1;
     }
     let mut looked = 1;
     for symbol in [Letter(0), Letter(1), Letter(2), Span(1), Span(2), Span(0)] {
-        let mut next = watch.clone();
         let longer = [word, &[symbol]].concat();
-        let refusal = bad_symbol(&watch.table, symbol).or_else(|| {
-            let ends = runs(&watch.table, &longer).into_iter();
-            let ends: BTreeSet<_> = ends.map(|run| *run.last().unwrap()).collect();
-            let crowded = longest_runs(&watch.table, &ends, &ends) > watch.room;
-            Some(11).filter(|_| matches!(symbol, Letter(_)) && crowded)
-        });
+        let held = ends(table, &longer);
+        let refusal = refusal(watch, symbol, longest_runs(table, &held, &held));
+        let mut next = watch.clone();
         assert_eq!(next.take(symbol), refusal.map_or(Ok(()), Err));
-        let accepted = if refusal.is_none() { &longer } else { word };
-        looked += follow_runs(&next, accepted, depth - 1);
+        looked += match refusal {
+            None => follow_runs(&next, &longer, depth - 1),
+            Some(_) => follow_runs(&next, word, depth - 1),
+        };
     }
     looked
 }
@@ -202,6 +206,30 @@ fn all_sets(table: &Table) -> Vec<BTreeSet<Configuration>> {
     (0..1 << all.len()).map(chosen).collect()
 }
 
+/// What all of the sets hold, and what any of them holds.
+fn common_and_joint(sets: &[BTreeSet<Configuration>]) -> [BTreeSet<Configuration>; 2] {
+    let joint: BTreeSet<_> = sets.iter().flatten().copied().collect();
+    let in_all = |configuration: &Configuration| sets.iter().all(|set| set.contains(configuration));
+    let common = joint.iter().filter(|c| in_all(c)).copied().collect();
+    [common, joint]
+}
+
+/// What a watch that could not tell these sets apart must answer.
+fn expected_of(table: &Table, sets: &[BTreeSet<Configuration>]) -> Answer {
+    let clip: BTreeSet<_> = sets.iter().map(|set| clipped(table, set)).collect();
+    let accept = sets.iter().filter(|set| accepting(table, set)).count();
+    let [sure, possible] = common_and_joint(sets);
+    Answer::Stands {
+        verdict: match accept {
+            0 => Verdict::No,
+            _ if accept == sets.len() => Verdict::Yes,
+            _ => Verdict::Unsure,
+        },
+        settled: clip.len() == 1,
+        count: longest_runs(table, &sure, &possible),
+    }
+}
+
 /// Follows every word after a gap, holding the watch to all sets that may have stood at the gap's end.
 fn follow_sets<S: Configurations>(
     watch: &Watch<S>,
@@ -209,32 +237,21 @@ fn follow_sets<S: Configurations>(
     depth: usize,
 ) -> usize {
     let table = &watch.table;
-    let clip: BTreeSet<_> = sets.iter().map(|set| clipped(table, set)).collect();
-    let (verdict, settled) = match watch.answer() {
-        Answer::Stands {
-            verdict, settled, ..
-        } => (verdict, settled),
-        Answer::Refused(_) => unreachable!("a question is not refused here"),
-    };
-    let accept = sets.iter().filter(|set| accepting(table, set)).count();
-    let expected = match accept {
-        0 => Verdict::No,
-        _ if accept == sets.len() => Verdict::Yes,
-        _ => Verdict::Unsure,
-    };
-    assert_eq!(verdict, expected, "{table:?}");
-    assert_eq!(settled, clip.len() == 1, "{table:?}");
+    assert_eq!(watch.answer(), expected_of(table, sets), "{table:?}");
     if depth == 0 {
         return 1;
     }
     let mut looked = 1;
     for symbol in [Letter(0), Letter(1), Span(1), Span(2)] {
+        let after: Vec<_> = sets.iter().map(|set| stepped(table, set, symbol)).collect();
+        let [sure, possible] = common_and_joint(&after);
+        let refusal = refusal(watch, symbol, longest_runs(table, &sure, &possible));
         let mut next = watch.clone();
-        let after: Vec<_> = match next.take(symbol) {
-            Ok(()) => sets.iter().map(|set| stepped(table, set, symbol)).collect(),
-            Err(_) => sets.to_vec(),
+        assert_eq!(next.take(symbol), refusal.map_or(Ok(()), Err));
+        looked += match refusal {
+            None => follow_sets(&next, &after, depth - 1),
+            Some(_) => follow_sets(&next, sets, depth - 1),
         };
-        looked += follow_sets(&next, &after, depth - 1);
     }
     looked
 }

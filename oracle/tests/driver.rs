@@ -15,7 +15,11 @@ fn oracle(words: &[&str]) -> Output {
 
 /// The comparison over the least number of sessions of each kind.
 fn compared(program: &[&str]) -> (Option<i32>, String) {
-    let mut words = vec!["compare", "--seed", "3"];
+    compared_within("120", program)
+}
+
+fn compared_within(patience: &str, program: &[&str]) -> (Option<i32>, String) {
+    let mut words = vec!["compare", "--seed", "3", "--patience", patience];
     let counts: Vec<String> = (oracle::generate::kinds::KINDS.iter())
         .map(|kind| format!("{}={}", kind.name, kind.least))
         .collect();
@@ -43,7 +47,7 @@ fn a_right_program_passes() {
 
 #[test]
 fn a_program_that_prints_something_else_is_shown() {
-    let wrong = format!("{ORACLE} watch | sed 's/unsure open/no open/'");
+    let wrong = format!("'{ORACLE}' watch | sed 's/unsure open/no open/'");
     let (status, text) = compared(&["sh", "-c", &wrong]);
     assert_eq!(status, Some(1));
     assert!(text.contains("gaps     FAILED"), "{text}");
@@ -67,10 +71,26 @@ fn a_program_that_prints_nothing_fails() {
 
 #[test]
 fn a_program_that_ends_badly_fails() {
-    let right_but = format!("{ORACLE} watch; exit 3");
+    let right_but = format!("'{ORACLE}' watch; exit 3");
     let (status, text) = compared(&["sh", "-c", &right_but]);
     assert_eq!(status, Some(1));
     assert!(text.contains("sh ended with"), "{text}");
+}
+
+#[test]
+fn a_program_that_does_not_end_fails() {
+    let reads_and_sleeps = format!("'{ORACLE}' watch; exec >/dev/null; exec sleep 1000");
+    let reads_nothing = "exec sleep 1000".to_string();
+    for program in [reads_and_sleeps, reads_nothing] {
+        let (status, text) = compared_within("2", &["sh", "-c", &program]);
+        assert_eq!(status, Some(1));
+        assert!(text.contains("the program does not end"), "{text}");
+        // no other kind is tried with it
+        assert!(
+            text.ends_with("0 sessions alike, 1 kinds failed\n"),
+            "{text}"
+        );
+    }
 }
 
 #[test]

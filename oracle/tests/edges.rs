@@ -46,6 +46,70 @@ fn lines() {
 }
 
 #[test]
+fn the_last_state_and_the_last_letter_take_part() {
+    let table = TableDraft {
+        states: 16,
+        letters: 32,
+        initial: 0x4000,
+        accepting: 0x8000,
+        lines: vec![line(14, 31, 15, KEEPS, 0, NONE)],
+        ..plain()
+    };
+    assert_eq!(
+        said(64, table, vec![Letter(31), Letter(32)]),
+        ["0 no settled 1", "1 yes settled 1", "2 refused 9"]
+    );
+}
+
+#[test]
+fn all_64_lines_take_part() {
+    // the last line alone leads to the accepting state
+    let mut lines = vec![line(0, 0, 0, KEEPS, 0, NONE); 63];
+    lines.push(line(0, 0, 1, KEEPS, 0, NONE));
+    let table = TableDraft {
+        states: 2,
+        accepting: 2,
+        lines,
+        ..plain()
+    };
+    assert_eq!(
+        said(64, table, vec![Letter(0)]),
+        ["0 no settled 1", "1 yes settled 1"]
+    );
+}
+
+#[test]
+fn without_lines_the_horizon_is_0() {
+    let table = changed(plain(), |t| t.lines.clear());
+    assert_eq!(
+        said(64, table, vec![Span(1), Letter(0)]),
+        ["0 yes settled 1", "1 yes settled 0", "2 no settled 0"]
+    );
+}
+
+#[test]
+fn a_year_is_a_horizon() {
+    // at age 31,622,400 the line still holds, one second later it does not
+    let table = TableDraft {
+        lines: vec![line(0, 0, 0, KEEPS, 31_622_400, 31_622_400)],
+        ..plain()
+    };
+    let of = |entries| said(64, table.clone(), entries);
+    assert_eq!(
+        of(vec![Span(31_622_400), Letter(0)])[1..],
+        ["1 yes settled 1", "2 yes settled 1"]
+    );
+    assert_eq!(
+        of(vec![Span(31_622_399), Letter(0)])[1..],
+        ["1 yes settled 1", "2 no settled 0"]
+    );
+    assert_eq!(
+        of(vec![Span(31_622_401), Letter(0)])[1..],
+        ["1 yes settled 0", "2 no settled 0"]
+    );
+}
+
+#[test]
 fn stated_length() {
     assert_eq!(started(|t| t.length = Some(24)), "0 yes settled 1");
     assert_eq!(started(|t| t.length = Some(23)), "0 refused 4");
@@ -165,8 +229,29 @@ fn a_gap_after_a_gap_changes_nothing() {
 }
 
 #[test]
-fn no_span_between_two_letters() {
-    // the second letter acts at age 0 too, where line 1 holds and where state 1 stands already
+fn no_span_between_two_letters_they_act_at_the_same_age() {
+    // each line holds at age 3 alone
+    let table = TableDraft {
+        states: 3,
+        letters: 2,
+        accepting: 4,
+        lines: vec![line(0, 0, 1, KEEPS, 3, 3), line(1, 1, 2, KEEPS, 3, 3)],
+        ..plain()
+    };
+    assert_eq!(
+        said(64, table, vec![Span(3), Letter(0), Letter(1)]),
+        [
+            "0 no settled 1",
+            "1 no settled 1",
+            "2 no settled 1",
+            "3 yes settled 1",
+        ]
+    );
+}
+
+#[test]
+fn no_span_between_two_letters_age_0_is_held_already() {
+    // the second letter acts at age 0, where state 1 stands already
     let table = TableDraft {
         states: 2,
         standing: 2,
@@ -211,6 +296,25 @@ fn age_0_joins_age_1_before_the_count() {
     assert_eq!(
         said(1, table, vec![Span(2), Letter(0)]),
         ["0 yes settled 1", "1 yes settled 1", "2 refused 11"]
+    );
+}
+
+#[test]
+fn a_stretch_ends_where_the_sure_set_changes() {
+    // after the gap state 0 may have any age from 0 to 3, and is sure to have age 0
+    let table = TableDraft {
+        standing: 1,
+        lines: vec![line(0, 0, 0, KEEPS, 0, 3)],
+        ..plain()
+    };
+    let of = |room| said(room, table.clone(), vec![Gap, Letter(0)]);
+    assert_eq!(
+        of(2),
+        ["0 yes settled 1", "1 unsure open 1", "2 yes open 2"]
+    );
+    assert_eq!(
+        of(1),
+        ["0 yes settled 1", "1 unsure open 1", "2 refused 11"]
     );
 }
 

@@ -73,7 +73,7 @@ fn no_line() -> Line
 }
 
 // The head of the table t; all 0 where t has fewer than 12 bytes.
-pub fn head_at(t: &[u8]) -> Head
+pub fn head_of(t: &[u8]) -> Head
     ensures { λ r. ⌜ r ≡ headOf (now (t .entry)) ⌝ }
 {
     if t.len() < 12 {

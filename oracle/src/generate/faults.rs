@@ -24,6 +24,13 @@ pub fn single(random: &mut Random, number: usize) -> Faulty {
         _ => sound(random),
     };
     let ordinal = match fault {
+        // a table that the input cuts off has no other fault beside it
+        1 | 4 if random.one_in(2) => {
+            let least = if fault == 1 { 0 } else { 12 };
+            let most = if fault == 1 { 11 } else { 35 };
+            draft.cut = Some(2 + random.from(least, most) as usize);
+            0
+        }
         1..=8 => {
             spoil_start(random, &mut draft, fault);
             0
@@ -65,17 +72,36 @@ pub fn pair(random: &mut Random, number: usize) -> Faulty {
     match (a, b) {
         (6, 7) if random.one_in(2) => two_lines(random, 6, 7),
         (6, 7) => one_line(random),
-        (1..=8, 2..=8) => {
+        (1, 2..=8) => {
+            // last, since 4 states a length too
             let mut draft = sound(random);
             spoil_start(random, &mut draft, b);
+            spoil_start(random, &mut draft, 1);
+            at_start(draft, 1)
+        }
+        (3, 5) => {
+            // no mask has a bit for state 17: m is out of its range here
+            let mut draft = sound(random);
+            draft.table.letters = random.pick(&[0, 33, 255]);
+            spoil_start(random, &mut draft, 5);
+            at_start(draft, 3)
+        }
+        (2..=8, 2..=8) => {
+            let mut draft = sound(random);
             spoil_start(random, &mut draft, a);
+            spoil_start(random, &mut draft, b);
             at_start(draft, a)
         }
         (1..=8, 12) => {
             let mut draft = sound(random);
             spoil_start(random, &mut draft, a);
-            spoil_frame(random, &mut draft);
-            at_start(draft, 12)
+            if random.one_in(2) {
+                spoil_frame(random, &mut draft);
+                return at_start(draft, 12);
+            }
+            draft.entries.clear();
+            draft.tail = unreadable(random);
+            at_start(draft, a)
         }
         (1..=8, _) => {
             // a start that is refused ends the session before the other fault
@@ -130,19 +156,15 @@ fn spoil_start(random: &mut Random, draft: &mut Draft, number: u8) {
     let table = &mut draft.table;
     let whole = 12 + 12 * table.lines.len() as u64;
     match number {
-        1 if random.one_in(2) => table.length = Some(random.from(0, 11) as u16),
-        1 => draft.cut = Some(2 + random.from(0, 11) as usize),
+        1 => table.length = Some(random.from(0, 11) as u16),
         2 => table.version = random.pick(&[0, 2, 255]),
         3 => match random.from(0, 2) {
             0 => table.states = random.pick(&[0, 17, 255]),
             1 => table.letters = random.pick(&[0, 33, 255]),
-            _ => table.lines = vec![table.lines[0].clone(); 65],
+            _ => table.lines.resize(65, line(0, 0, 1, KEEPS, 0, NONE)),
         },
-        4 => match random.from(0, 2) {
-            0 => table.length = Some(random.from(12, whole - 1) as u16),
-            1 => table.length = Some(random.from(whole + 1, 65_535) as u16),
-            _ => draft.cut = Some(2 + random.from(12, whole - 1) as usize),
-        },
+        4 if random.one_in(2) => table.length = Some(random.from(12, whole - 1) as u16),
+        4 => table.length = Some(random.from(whole + 1, 65_535) as u16),
         5 => {
             // n is below 16 here, so that there is a bit too many
             let bit = 1 << random.from(u64::from(table.states.min(15)), 15);

@@ -1,7 +1,7 @@
 //! What the sessions of a kind must reach. A kind that does not reach its goals compares nothing of what it is for.
 
 use crate::session::{first, framed, Symbol};
-use crate::table::Table;
+use crate::table::{Line, Table};
 use crate::watch::{Answer, Verdict};
 
 /// A session as it went.
@@ -171,6 +171,23 @@ pub fn span_taken(seconds: u32) -> Goal {
     goal(format!("a span of {seconds} taken"), move |s: &Seen| {
         (s.steps.iter()).any(|step| step.0 == Symbol::Span(seconds) && is_taken(&step.1))
     })
+}
+
+/// The letter is taken in a table with a line that bears it, from or to this state.
+pub fn letter_at_state(wanted: u8, state: usize) -> Goal {
+    goal(
+        format!("letter {wanted} taken, state {state} in a line of it"),
+        move |s: &Seen| {
+            let taken =
+                (s.steps.iter()).any(|step| step.0 == Symbol::Letter(wanted) && is_taken(&step.1));
+            let touches =
+                |line: &Line| line.letter == wanted && (line.from == state || line.to == state);
+            taken
+                && s.table
+                    .as_ref()
+                    .map_or(false, |table| table.lines.iter().any(touches))
+        },
+    )
 }
 
 /// The session of this many bytes is read to its end.

@@ -3,7 +3,7 @@
 use crate::generate::faults::{pair, single, Faulty, PAIRS, SINGLES};
 use crate::generate::goals::{
     count_none, count_of, every_word, every_word_after_gap, frame_refused, horizon_of,
-    into_room_and_out, read_whole, refused, span_taken, unreadable_after, Goal,
+    into_room_and_out, letter_at_state, read_whole, refused, span_taken, unreadable_after, Goal,
 };
 use crate::generate::make;
 use crate::generate::random::Random;
@@ -104,7 +104,12 @@ pub static KINDS: [Kind; 11] = [
         about: "16 states, 32 letters, 64 lines",
         make: |random, number| Session::plain(make::heavy(random, number).bytes()),
         least: 60,
-        goals: || joined(every_word(), [refused(11), count_of(64)]),
+        goals: || {
+            joined(
+                every_word(),
+                [refused(11), count_of(64), letter_at_state(31, 15)],
+            )
+        },
     },
     Kind {
         name: "long",

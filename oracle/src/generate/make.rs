@@ -191,10 +191,25 @@ pub fn heavy(random: &mut Random, number: usize) -> Draft {
         _ => crowded(random, 64, 16, 62),
     };
     let mut draft = start.going_on(random, &habit);
-    draft.table.letters = 32;
+    let palette = random.pick(&[[31, 7, 19], [5, 31, 12], [0, 16, 31]]);
+    spread_letters(&mut draft, palette);
     // of so many states some would nearly always accept
     draft.table.accepting = random.states(16, 8);
     draft
+}
+
+/// Letters 0, 1 and 2 of a draft become the three given, of 32 in all.
+fn spread_letters(draft: &mut Draft, palette: [u8; 3]) {
+    let spread = |letter: u8| palette.get(usize::from(letter)).copied().unwrap_or(letter);
+    draft.table.letters = 32;
+    for line in &mut draft.table.lines {
+        line.letter = spread(line.letter);
+    }
+    for entry in &mut draft.entries {
+        if let Symbol::Letter(letter) = entry {
+            *letter = spread(*letter);
+        }
+    }
 }
 
 /// A table and entries that fill any room and pass it: letter 0 keeps all that is held and adds age 0, and spans of 2

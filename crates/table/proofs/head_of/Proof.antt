@@ -1,10 +1,10 @@
--- `table::head_at` meets its contract: past the test every index is below 12, and each place of the head is a byte or what
+-- `table::head_of` meets its contract: past the test every index is below 12, and each place of the head is a byte or what
 -- `be16` says of two; before it the head is missing. Assumes nothing.
 use borrow.Author.Needs.{needs}
 use mathlib.Core.Path.{sym, _∙_}
 use Rattle.table.proofs.Laws.{headOf-whole, headOf-short}
-use Rattle.table.proofs.head_at.Statement.{statement}
-use Rattle.table.proofs.head_at.Tie as tie
+use Rattle.table.proofs.head_of.Statement.{statement}
+use Rattle.table.proofs.head_of.Tie as tie
 
 no-head-requires : tie.Need-no-head-requires
 no-head-requires c κs = search needs
@@ -63,8 +63,8 @@ shared-slice-read-t31 c = search needs
 returns-2 : tie.Need-returns-2
 returns-2 c = sym (headOf-whole _ (search needs) ∙ (cc))
 
-pub head-at-spec : {M : Type 1} → statement M
-head-at-spec =
+pub head-of-spec : {M : Type 1} → statement M
+head-of-spec =
     tie.close
     (tie.spec
     no-head-requires
