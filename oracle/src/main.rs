@@ -81,12 +81,14 @@ fn watch(by_ages: bool) {
 }
 
 fn list_kinds() {
+    let mut text = String::new();
     for kind in &KINDS {
-        println!("{:8} {}", kind.name, kind.about);
+        text += &format!("{:8} {}\n", kind.name, kind.about);
         for goal in (kind.goals)() {
-            println!("         - {}", goal.name);
+            text += &format!("         - {}\n", goal.name);
         }
     }
+    write_out(text.as_bytes());
 }
 
 /// How many sessions of each kind, over which program.
@@ -117,7 +119,10 @@ fn task(words: &[&str]) -> Task {
                 rest = more;
             }
             ["--patience", seconds, more @ ..] => {
-                task.patience = Duration::from_secs(number_of(seconds));
+                task.patience = match number_of(seconds) {
+                    seconds @ 1..=86_400 => Duration::from_secs(seconds),
+                    _ => wrong_use("patience is 1 to 86,400 seconds"),
+                };
                 rest = more;
             }
             ["--of", one, more @ ..] => {

@@ -6,7 +6,7 @@ use oracle::generate::draft::{line, TableDraft, NONE};
 use oracle::generate::random::Random;
 use oracle::session::Symbol::{self, Gap, Letter, Span};
 use oracle::spells::Spells;
-use oracle::table::Table;
+use oracle::table::{Line, Table};
 use oracle::watch::{Answer, Configurations, Verdict, Watch};
 use std::collections::BTreeSet;
 
@@ -45,12 +45,30 @@ fn has(set: u16, state: usize) -> bool {
     set >> state & 1 == 1
 }
 
+/// L ≤ t ≤ U. Said here again: what judges the second program uses nothing of it but the table's parts.
+fn holds(line: &Line, age: u64) -> bool {
+    let late = match line.greatest {
+        Some(greatest) => age > greatest,
+        None => false,
+    };
+    !late && age >= line.least
+}
+
+/// The largest L or finite U in any line, 0 if there are no lines; said here again likewise.
+fn horizon(table: &Table) -> u64 {
+    let mut horizon = 0;
+    for line in &table.lines {
+        horizon = horizon.max(line.least).max(line.greatest.unwrap_or(0));
+    }
+    horizon
+}
+
 /// The configurations that one step leads to, as 001 says it.
 fn steps(table: &Table, (state, age): Configuration, symbol: Symbol) -> Vec<Configuration> {
     match symbol {
         Span(seconds) => vec![(state, age + u64::from(seconds))],
         Letter(letter) => (table.lines.iter())
-            .filter(|line| line.from == state && line.letter == letter && line.admits(age))
+            .filter(|line| line.from == state && line.letter == letter && holds(line, age))
             .map(|line| (line.to, if line.resets { 0 } else { age }))
             .collect(),
         Gap => unreachable!("a run has no gap"),
@@ -101,7 +119,7 @@ fn longest_runs(
             .collect()
     };
     let pair = |age| (at(sure, age), at(possible, age));
-    (0..=table.horizon)
+    (0..=horizon(table))
         .filter(|&age| !pair(age).1.is_empty())
         .filter(|&age| age == 0 || pair(age - 1) != pair(age))
         .count()
@@ -186,14 +204,14 @@ fn stepped(
 
 /// The set with all ages above the horizon counted as one.
 fn clipped(table: &Table, set: &BTreeSet<Configuration>) -> BTreeSet<Configuration> {
-    let clip = |&(state, age): &Configuration| (state, age.min(table.horizon + 1));
+    let clip = |&(state, age): &Configuration| (state, age.min(horizon(table) + 1));
     set.iter().map(clip).collect()
 }
 
 /// All sets of configurations over the table's states and the ages 0 to H + 2: two ages above H, so that taking them
 /// as one is looked at too. The empty set is the first.
 fn all_sets(table: &Table) -> Vec<BTreeSet<Configuration>> {
-    let ages = 0..=table.horizon + 2;
+    let ages = 0..=horizon(table) + 2;
     let all: Vec<Configuration> = ages
         .flat_map(|age| (0..table.states).map(move |state| (state, age)))
         .collect();

@@ -110,13 +110,21 @@ fn too_few_sessions_are_no_comparison() {
 
 #[test]
 fn bad_words_are_refused() {
-    let bad: [&[&str]; 10] = [
+    let bad: [&[&str]; 12] = [
         &[],
         &["watches"],
         &["watch", "--age"],
         &["compare"],
         &["compare", "--"],
         &["compare", "--each", "many", "--", "true"],
+        &["compare", "--patience", "0", "--", "true"],
+        &[
+            "compare",
+            "--patience",
+            "18446744073709551615",
+            "--",
+            "true",
+        ],
         &["compare", "--of", "small", "--", "true"],
         &["compare", "--of", "tiny=5", "--", "true"],
         &["session", "small", "1"],

@@ -38,46 +38,46 @@ unfolding lineAt
 line-by-places = refl
 
 -- the session's table, 36 bytes: its head, line 0 and line 1
-abbrev pub session : List ℕ
-session =
+abbrev pub board-table : List ℕ
+board-table =
     (1 ∷ 0 ∷ 36 ∷ 2 ∷ 2 ∷ 0 ∷ 1 ∷ 0 ∷ 1 ∷ 0 ∷ 2 ∷ 2 ∷ [])
     ++ (0 ∷ 0 ∷ 1 ∷ 1 ∷ 0 ∷ 0 ∷ 0 ∷ 0 ∷ 255 ∷ 255 ∷ 255 ∷ 255 ∷ [])
     ++ (1 ∷ 1 ∷ 1 ∷ 0 ∷ 0 ∷ 0 ∷ 0 ∷ 0 ∷ 0 ∷ 0 ∷ 0 ∷ 5 ∷ [])
 
 -- state 0 is initial and standing, state 1 accepting
-pub head-of-session : headOf session ≡ record { version = 1; length = 36; states = 2; letters = 2; initial = 1; standing = 1; accepting = 2; lines = 2 }
+pub head-of-board-table : headOf board-table ≡ record { version = 1; length = 36; states = 2; letters = 2; initial = 1; standing = 1; accepting = 2; lines = 2 }
 unfolding headOf
-head-of-session = refl
+head-of-board-table = refl
 
 -- refreshed, from 0 to 1, reset, any age
-pub line-0-any-age : lineAt session 0 ≡ record { from = 0; letter = 0; to = 1; flags = 1; least = 0; greatest = 4294967295 }
+pub line-0-any-age : lineAt board-table 0 ≡ record { from = 0; letter = 0; to = 1; flags = 1; least = 0; greatest = 4294967295 }
 unfolding lineAt
 line-0-any-age = refl
 
 -- look, from 1 to 1, ages 0 to 5
-pub line-1-to-age-5 : lineAt session 1 ≡ record { from = 1; letter = 1; to = 1; flags = 0; least = 0; greatest = 5 }
+pub line-1-to-age-5 : lineAt board-table 1 ≡ record { from = 1; letter = 1; to = 1; flags = 0; least = 0; greatest = 5 }
 unfolding lineAt
 line-1-to-age-5 = refl
 
-pub line-2-missing : lineAt session 2 ≡ noLine
+pub line-2-missing : lineAt board-table 2 ≡ noLine
 unfolding lineAt
 line-2-missing = refl
 
-pub line-1-one-byte-short : lineAt (take 35 session) 1 ≡ noLine
+pub line-1-one-byte-short : lineAt (take 35 board-table) 1 ≡ noLine
 unfolding lineAt
 line-1-one-byte-short = refl
 
 -- what is missing at the end takes no other line away
-pub line-0-in-35-bytes : lineAt (take 35 session) 0 ≡ lineAt session 0
+pub line-0-in-35-bytes : lineAt (take 35 board-table) 0 ≡ lineAt board-table 0
 unfolding lineAt
 line-0-in-35-bytes = refl
 
 -- a table without lines has a head
-pub head-of-12-bytes : headOf (take 12 session) ≡ headOf session
+pub head-of-12-bytes : headOf (take 12 board-table) ≡ headOf board-table
 unfolding headOf
 head-of-12-bytes = refl
 
-pub head-of-11-bytes-missing : headOf (take 11 session) ≡ noHead
+pub head-of-11-bytes-missing : headOf (take 11 board-table) ≡ noHead
 unfolding headOf
 head-of-11-bytes-missing = refl
 

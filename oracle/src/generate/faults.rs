@@ -26,9 +26,12 @@ pub fn single(random: &mut Random, number: usize) -> Faulty {
     let ordinal = match fault {
         // a table that the input cuts off has no other fault beside it
         1 | 4 if random.one_in(2) => {
-            let least = if fault == 1 { 0 } else { 12 };
-            let most = if fault == 1 { 11 } else { 35 };
-            draft.cut = Some(2 + random.from(least, most) as usize);
+            let whole = draft.table.bytes().len() as u64;
+            let left = match fault {
+                1 => random.from(0, 11),
+                _ => random.from(12, whole - 1),
+            };
+            draft.cut = Some(2 + left as usize);
             0
         }
         1..=8 => {
@@ -237,10 +240,7 @@ fn spoil_frame(random: &mut Random, draft: &mut Draft) {
     match random.from(0, 2) {
         0 => draft.version = random.pick(&[0, 2, 255]),
         1 => draft.cut = Some(random.from(0, 1) as usize),
-        _ => {
-            draft.tail = vec![1; LONGEST];
-            draft.cut = None;
-        }
+        _ => draft.tail = vec![1; LONGEST],
     }
 }
 
