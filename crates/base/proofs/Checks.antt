@@ -1,0 +1,66 @@
+-- Checks in their order, read back: `Fails t A` says that the test t fails just where A holds, and `Passes n A` that no number
+-- is given just where A holds. Checks are put together as the numbers are: `or` for `||`, `check` for `if`, `and-then` for
+-- `then`, `each` for `firstOf`; then single tests. Assumes nothing.
+use Prim.Native.Nat.{ℕ, zero, suc, _≤_, _<_}
+use mathlib.Core.Path.{_≡_, refl, sym, subst}
+use mathlib.Core.Logic.{_↔_, Iff·trans}
+use mathlib.Core.Bool.{Bool, true, false, _||_, not}
+use native.Mathlib.Nat.{not-suc-le-zero}
+use native.Mathlib.Decide.{ℕ-discrete}
+use native.Mathlib.Omega.{arith}
+use lib.Dec.{T as Is, eqb, leb, ltb, eqb→eq, leb→le, ltb→lt, nleb→lt, nltb→le, not-T}
+use Rattle.base.specs.Checks.{_if_, _then_, firstOf}
+use Rattle.base.proofs.Tests.{eqb-iff}
+
+-- the test t fails just where A holds
+pub record Fails (t : Bool) (A : Type 0) : Type 0 where
+  pub iff : (¬ Is t) ↔ A
+
+-- the number n is 0 just where A holds
+pub record Passes (n : ℕ) (A : Type 0) : Type 0 where
+  pub iff : (n ≡ 0) ↔ A
+
+infixl 30 _or_
+infixr 20 _and-then_
+-- neither of two tests says so
+pub _or_ : {s t : Bool} {A B : Type 0} → Fails s A → Fails t B → Fails (s || t) (A × B)
+_or_ {s = true} p q = record { iff = ((λ h. absurd (h tt)), λ h. p .iff .1 (h .0)) }
+_or_ {s = false} p q = record { iff = ((λ h. (p .iff .0 (λ z. z), q .iff .0 h)), λ h. q .iff .1 (h .1)) }
+
+-- the check that gives n + 1 where the test t says so
+pub check : (n : ℕ) {t : Bool} {A : Type 0} → Fails t A → Passes (suc n if t) A
+check n {t = true} p = record { iff = ((λ e. absurd (let z : ⊥ = omega arith in z)), λ a. absurd (p .iff .1 a tt)) }
+check n {t = false} p = record { iff = ((λ e. p .iff .0 (λ z. z)), λ a. refl) }
+
+-- two checks in turn
+pub _and-then_ : {m n : ℕ} {A B : Type 0} → Passes m A → Passes n B → Passes (m then n) (A × B)
+_and-then_ {m = zero} p q = record { iff = ((λ e. (p .iff .0 refl, q .iff .0 e)), λ h. q .iff .1 (h .1)) }
+_and-then_ {m = suc m} p q = record { iff = ((λ e. absurd (let z : ⊥ = omega arith in z)), λ h. p .iff .1 (h .0)) }
+
+-- a check for each number below n
+pub each : (n : ℕ) {f : ℕ → ℕ} {A : ℕ → Type 0} → ((k : ℕ) → Passes (f k) (A k)) → Passes (firstOf n f) ((k : ℕ) → k < n → A k)
+unfolding firstOf
+each zero p = record { iff = ((λ e k l. absurd (not-suc-le-zero l)), λ h. refl) }
+each (suc n) {A = A} p = record { iff = Iff·trans ((each n p and-then p n) .iff) ((λ h k l. go h k l (ℕ-discrete k n)), λ h. ((λ k l. h k (omega arith)), h n (omega arith))) }
+  where
+    go : ((k : ℕ) → k < n → A k) × A n → (k : ℕ) → k < suc n → Dec (k ≡ n) → A k
+    go h k l (yes e) = subst A (sym e) (h .1)
+    go h k l (no d) = h .0 k (omega arith)
+
+-- what each test of the checks says where it fails
+pub below : (m n : ℕ) → Fails (leb m n) (n < m)
+below m n = record { iff = ((λ h. nleb→lt m n (not-T (leb m n) h)), λ l t. omega (arith, leb→le m n t)) }
+
+pub at-most : (m n : ℕ) → Fails (ltb m n) (n ≤ m)
+at-most m n = record { iff = ((λ h. nltb→le m n (not-T (ltb m n) h)), λ l t. omega (arith, ltb→lt m n t)) }
+
+pub not-zero : (m : ℕ) → Fails (eqb m 0) (1 ≤ m)
+not-zero m = record { iff = ((λ h. let n : ¬ (m ≡ 0) = λ e. h (eqb-iff m 0 .1 e) in omega arith), λ l t. omega (arith, eqb→eq m 0 t)) }
+
+-- a test turned round
+pub unless : (t : Bool) {A : Type 0} → Is t ↔ A → Fails (not t) A
+unless true p = record { iff = ((λ h. p .0 tt), λ a z. z) }
+unless false p = record { iff = ((λ h. absurd (h tt)), λ a z. p .1 a) }
+
+pub equal : (m n : ℕ) → Fails (not (eqb m n)) (m ≡ n)
+equal m n = unless (eqb m n) (eqb-iff m n)

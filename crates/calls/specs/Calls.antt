@@ -1,0 +1,94 @@
+-- What each call answers, for every table and record that may be handed in: its number and its record, or its number and
+-- nothing else, or what was asked (document 01, Numbers a call can answer with). Everything is said by ages and sets; of a
+-- record only the pairs of its ages are read, and whether it is proper. Assumes nothing: these are definitions.
+use Prim.Native.Nat.{ℕ, zero, suc}
+use mathlib.Core.List.{List}
+use mathlib.Core.Bool.{Bool, _&&_, _||_, not}
+use lib.Dec.{eqb, leb, ltb}
+use lib.ListN.{length}
+use Rattle.base.specs.Checks.{_if_, _then_}
+use Rattle.meaning.specs.Tables.{Table, tableOf, horizon}
+use Rattle.meaning.specs.Runs.{Symbol, letter, span}
+use Rattle.faults.specs.Faults.{tableFault}
+use Rattle.record.specs.declared.Record.{Record}
+use Rattle.record.specs.Pairs.{Pairs, startPairs, gapPairs, stepPairs, Verdict, verdictAt, settledAt}
+use Rattle.record.specs.Stretches.{stretchesOf}
+use Rattle.record.specs.Records.{blankRecord, pairsAt, recordOf, properb}
+use Rattle.calls.specs.declared.Answer.{Answer}
+
+-- ---- the table and the record that were handed in
+
+-- the pairs that the record holds, by the horizon of the table that is handed in with it
+abbrev pub pairsOf : List ℕ → Record → Pairs
+pairsOf b r = pairsAt (horizon (tableOf b)) r
+
+-- the record of the same room that holds the pairs f
+abbrev pub holding : List ℕ → ℕ → Pairs → Record
+holding b room f = recordOf room (horizon (tableOf b)) f
+
+-- how many stretches the pairs f need
+abbrev pub needed : List ℕ → Pairs → ℕ
+needed b f = length (stretchesOf (horizon (tableOf b)) f)
+
+-- ---- the checks of each call, in their order
+
+-- 1 to 7, then 8: "room outside 1 to 64 at a start"
+unfoldable pub startFault : List ℕ → ℕ → ℕ
+startFault b room = tableFault b then 8 if not (leb 1 room && leb room 64)
+
+-- 1 to 7, then 8: "a record that isn't proper"
+unfoldable pub recordFault : List ℕ → Record → ℕ
+recordFault b r = tableFault b then 8 if not (properb (horizon (tableOf b)) (tableOf b .states) r)
+
+-- the pairs after the symbol
+abbrev pub stepped : List ℕ → Record → Symbol → Pairs
+stepped b r x = stepPairs (tableOf b) x (pairsOf b r)
+
+-- 1 to 8, then 9: "letter m or above", and 11: "the count after the letter would exceed the room"
+unfoldable pub letterFault : List ℕ → Record → ℕ → ℕ
+letterFault b r a = recordFault b r then 9 if leb (tableOf b .letters) a then 11 if ltb (r .room) (needed b (stepped b r (letter a)))
+
+-- 1 to 8, then 10: "span 0 or above 2,147,483,647"
+unfoldable pub spanFault : List ℕ → Record → ℕ → ℕ
+spanFault b r s = recordFault b r then 10 if (eqb s 0 || ltb 2147483647 s)
+
+-- ---- what a call answers
+
+-- "An accepted call carries the number 0", and the new record; "Every refused call returns its number with the record exactly
+-- as handed in"
+abbrev pub answer : ℕ → Record → Record → Answer
+answer zero old new = record { number = 0; next = new }
+answer (suc n) old new = record { number = suc n; next = old }
+
+-- "a refused start returns a record of all zeros"
+unfoldable pub startOf : List ℕ → ℕ → Answer
+startOf b room = answer (startFault b room) blankRecord (holding b room (startPairs (tableOf b)))
+
+unfoldable pub letterOf : List ℕ → Record → ℕ → Answer
+letterOf b r a = answer (letterFault b r a) r (holding b (r .room) (stepped b r (letter a)))
+
+unfoldable pub spanOf : List ℕ → Record → ℕ → Answer
+spanOf b r s = answer (spanFault b r s) r (holding b (r .room) (stepped b r (span s)))
+
+unfoldable pub gapOf : List ℕ → Record → Answer
+gapOf b r = answer (recordFault b r) r (holding b (r .room) (gapPairs (tableOf b)))
+
+-- ---- what a question answers
+
+-- "refused, it gives its number and nothing else"
+pub data Reply (A : Type 0) : Type 0 where
+  refused : ℕ → Reply A
+  told : A → Reply A
+
+abbrev pub reply : {A : Type 0} → ℕ → A → Reply A
+reply zero a = told a
+reply (suc n) a = refused (suc n)
+
+unfoldable pub verdictOf : List ℕ → Record → Reply Verdict
+verdictOf b r = reply (recordFault b r) (verdictAt (tableOf b) (pairsOf b r))
+
+unfoldable pub settledOf : List ℕ → Record → Reply Bool
+settledOf b r = reply (recordFault b r) (settledAt (tableOf b) (pairsOf b r))
+
+unfoldable pub countOf : List ℕ → Record → Reply ℕ
+countOf b r = reply (recordFault b r) (needed b (pairsOf b r))

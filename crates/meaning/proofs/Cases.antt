@@ -1,0 +1,103 @@
+-- The definitions on the table of document 01, One session, whole: its horizon, a run written out, words that are accepted and
+-- one that is not, and two readings that look right and come out different. Assumes nothing.
+use Prim.Native.Nat.{ℕ, zero, suc, _+_, _-_, _≤_, _<_}
+use mathlib.Core.Path.{_≡_, refl}
+use mathlib.Core.Logic.{_↔_, _⊎_, inl, inr, Iff·trans, Iff·symm}
+use mathlib.Core.List.{List, []}
+use mathlib.Core.Bool.{Bool, true, false, cond}
+use native.Mathlib.Omega.{arith}
+use lib.Bits.{bitOr}
+use lib.Dec.{T as Is, eqb, leb}
+use lib.ListN.{take}
+use Rattle.base.specs.Masks.{Has, hasb, pick, union, most}
+use Rattle.table.specs.Table.{headOf, lineAt}
+use Rattle.table.proofs.Cases.{board-table}
+use Rattle.meaning.specs.Tables.{Table, tableOf, Meets, horizon, acceptingAt}
+use Rattle.meaning.specs.Runs.{Symbol, letter, span, Word, empty, _▷_, Follows, Step, Run, stays, goes, Begins, RunOver, Accepted}
+use Rattle.meaning.specs.Ages.{image, freshAt, letterAt, spanAt, stepAt, afterAt, initialAt, nothingAt, acceptsAt}
+use Rattle.meaning.proofs.Runs.{accepted-iff}
+use Rattle.meaning.proofs.Ages.{after-stands, initial-stands, accepts-stands}
+
+-- letters 0 refreshed, 1 look; states 0 waiting (initial, standing), 1 fresh (accepting)
+unfoldable pub board : Table
+board = tableOf board-table
+
+pub board-horizon : horizon board ≡ 5
+unfolding board tableOf horizon most headOf lineAt
+board-horizon = refl
+
+-- the head alone: no lines
+pub horizon-without-lines : horizon (tableOf []) ≡ 0
+unfolding tableOf horizon most headOf lineAt
+horizon-without-lines = refl
+
+-- both ends of "ages 0 to 5" are in, and 6 is out
+pub look-at-5 : Meets (board .line 1) 5
+unfolding board tableOf lineAt
+look-at-5 = (omega arith, inr (omega arith))
+
+pub look-not-at-6 : ¬ Meets (board .line 1) 6
+unfolding board tableOf lineAt
+look-not-at-6 (l, inl e) = omega arith
+look-not-at-6 (l, inr e) = omega arith
+
+-- ---- runs
+
+-- refreshed, 5 seconds, look
+abbrev pub looked : Word
+looked = empty ▷ letter 0 ▷ span 5 ▷ letter 1
+
+-- (0, 0), by line 0 to (1, 0), after 5 seconds (1, 5), by line 1 to (1, 5)
+pub looked-run : Run board 0 0 looked 1 5
+unfolding board tableOf headOf lineAt Step
+looked-run = goes (goes (goes stays refreshed) waited) look
+  where
+    refreshed : Follows board 0 0 0 1 0
+    refreshed = record { index = 0; listed = omega arith; bears = refl; leaves = refl; meets = (omega arith, inl refl); enters = refl; aged = refl }
+
+    waited : Step board (span 5) 1 0 1 5
+    waited = (refl, refl)
+
+    look : Follows board 1 1 5 1 5
+    look = record { index = 1; listed = omega arith; bears = refl; leaves = refl; meets = (omega arith, inr (omega arith)); enters = refl; aged = refl }
+
+-- it begins at the start of the stream in state 0, which is initial, and ends in state 1, which accepts
+pub looked-accepted : Accepted board looked
+unfolding board tableOf headOf lineAt Begins Has acceptingAt
+looked-accepted = (1, 5, refl, record { before = empty; rest = looked; whole = refl; first = 0; begins = refl; run = looked-run })
+
+-- a word is accepted exactly if what its symbols make of the initial states accepts, which computes
+pub accepted-computes : (T : Table) (w : Word) → Is (acceptsAt T (afterAt T (initialAt T) w)) ↔ Accepted T w
+accepted-computes T w = Iff·trans (accepts-stands T (afterAt T (initialAt T) w) _ (after-stands T (initialAt T) _ (initial-stands T (horizon T)) w)) (Iff·symm (accepted-iff T w))
+
+-- a look after 6 seconds finds nothing fresh
+pub late-look-not-accepted : ¬ Accepted board (empty ▷ letter 0 ▷ span 6 ▷ letter 1)
+unfolding board tableOf headOf lineAt horizon most acceptingAt hasb union image freshAt letterAt spanAt stepAt afterAt acceptsAt
+late-look-not-accepted h = accepted-computes board (empty ▷ letter 0 ▷ span 6 ▷ letter 1) .1 h
+
+-- waiting is standing: a run begins directly after any letter, here after the first look
+pub begun-after-a-look : Accepted board (empty ▷ letter 1 ▷ letter 0)
+unfolding board tableOf headOf lineAt horizon most acceptingAt hasb union image freshAt letterAt spanAt stepAt afterAt acceptsAt
+begun-after-a-look = accepted-computes board (empty ▷ letter 1 ▷ letter 0) .0 tt
+
+-- ---- two readings that look right (document 01, Readings that look right)
+
+-- the standing states stepped before the letter
+unfoldable pub standingFirst : Table → ℕ → (ℕ → ℕ) → ℕ → ℕ
+standingFirst T a f = letterAt T (horizon T) a (λ k. bitOr (f k) (pick (eqb k 0) (T .standing)))
+
+-- after a gap nothing is sure, and one refreshed makes nothing sure but waiting; stepped first, it would make a false yes
+pub standing-after-the-letter : (acceptsAt board (stepAt board (letter 0) nothingAt) ≡ false) × (acceptsAt board (standingFirst board 0 nothingAt) ≡ true)
+unfolding standingFirst board tableOf headOf lineAt horizon most acceptingAt hasb union image freshAt letterAt spanAt stepAt acceptsAt
+standing-after-the-letter = (refl, refl)
+
+-- a configuration dropped when its age passes H: above H only what was there already
+unfoldable pub droppedAbove : Table → ℕ → (ℕ → ℕ) → ℕ → ℕ
+droppedAbove T s f k = cond (leb k (horizon T)) (spanAt (horizon T) s f k) (f k)
+
+-- refreshed, 6 seconds: still fresh, as state 1 accepts at any age; dropped, it would be a false no
+pub kept-above-the-horizon :
+    (acceptsAt board (stepAt board (span 6) (stepAt board (letter 0) (initialAt board))) ≡ true)
+    × (acceptsAt board (droppedAbove board 6 (stepAt board (letter 0) (initialAt board))) ≡ false)
+unfolding droppedAbove board tableOf headOf lineAt horizon most acceptingAt hasb union image freshAt letterAt spanAt stepAt acceptsAt
+kept-above-the-horizon = (refl, refl)

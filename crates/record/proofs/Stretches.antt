@@ -1,0 +1,241 @@
+-- The list of stretches that `newest` makes. What a loop over pieces of ages uses: `newest-run` (a piece at once),
+-- `newest-skip` (ages where nothing is possible), `newest-cong`, `newest-length`. Then the list and what it says of each age
+-- (`meaning`): a proper list is that of its own meaning (`canon`), and the list of f is proper and says f (`newest-proper`,
+-- `meaning-newest`). `P` is what is known of every pair. Assumes nothing.
+use Prim.Native.Nat.{ℕ, zero, suc, _≤_, _<_}
+use mathlib.Core.Path.{_≡_, refl, sym, ap, ap₂, _∙_, subst}
+use mathlib.Core.Logic.{_↔_, _≢_, Iff·trans}
+use mathlib.Core.List.{List, [], _∷_}
+use mathlib.Core.Bool.{Bool, true, false, cond}
+use native.Mathlib.Nat.{le-refl, le-trans}
+use native.Mathlib.Decide.{ℕ-discrete, decLe, le-ind}
+use native.Mathlib.Omega.{arith}
+use lib.Dec.{T as Is, eqb, leb}
+use lib.ListN.{length}
+use Rattle.base.proofs.Tests.{is-true, is-false, eqb-iff, leb-iff, and-iff}
+use Rattle.record.specs.declared.Pair.{Pair}
+use Rattle.record.specs.declared.Stretch.{Stretch}
+use Rattle.record.specs.Pairs.{Pairs, noPair}
+use Rattle.record.specs.Stretches.{samePair, stretch, touches, putIf, put, pushIf, push, newest}
+use Rattle.record.specs.Records.{inside}
+
+-- ---- the tests, as facts
+
+pub pair-ext : (p q : Pair) → p .sure ≡ q .sure → p .possible ≡ q .possible → p ≡ q
+pair-ext p q s e = λ i. record { sure = s i; possible = e i }
+
+pub samePair-iff : (p q : Pair) → Is (samePair p q) ↔ (p ≡ q)
+samePair-iff p q =
+    Iff·trans (and-iff (eqb (p .sure) (q .sure)) (eqb (p .possible) (q .possible)) (eqb-iff (p .sure) (q .sure)) (eqb-iff (p .possible) (q .possible)))
+    ((λ h. pair-ext p q (h .0) (h .1)), λ e. (ap (λ (x : Pair). x .sure) e, ap (λ (x : Pair). x .possible) e))
+
+pub touches-iff : (x : Stretch) (a : ℕ) (p : Pair) → Is (touches x a p) ↔ ((suc (x .last) ≡ a) × (x .pair ≡ p))
+unfolding touches
+touches-iff x a p = and-iff (eqb (suc (x .last)) a) (samePair (x .pair) p) (eqb-iff (suc (x .last)) a) (samePair-iff (x .pair) p)
+
+pub inside-iff : (x : Stretch) (k : ℕ) → Is (inside x k) ↔ ((x .first ≤ k) × (k ≤ x .last))
+unfolding inside
+inside-iff x k = and-iff (leb (x .first) k) (leb k (x .last)) (leb-iff (x .first) k) (leb-iff k (x .last))
+
+pub push-none : (L : List Stretch) (a b : ℕ) (p : Pair) → p .possible ≡ 0 → push L a b p ≡ L
+unfolding push
+push-none L a b p e = ap (λ (t : Bool). pushIf t L a b p) (is-true (eqb (p .possible) 0) (eqb-iff (p .possible) 0 .1 e))
+
+pub push-some : (L : List Stretch) (a b : ℕ) (p : Pair) → p .possible ≢ 0 → push L a b p ≡ put L a b p
+unfolding push
+push-some L a b p n = ap (λ (t : Bool). pushIf t L a b p) (is-false (eqb (p .possible) 0) (λ h. n (eqb-iff (p .possible) 0 .0 h)))
+
+-- ---- ages with one pair, at once
+
+touches-self : (a b : ℕ) (p : Pair) → touches (stretch a b p) (suc b) p ≡ true
+touches-self a b p = is-true (touches (stretch a b p) (suc b) p) (touches-iff (stretch a b p) (suc b) p .1 (refl, refl))
+
+put-put : (L : List Stretch) (a b : ℕ) (p : Pair) → put (put L a b p) (suc b) (suc b) p ≡ put L a (suc b) p
+put-put [] a b p = rw touches-self
+put-put (x ∷ xs) a b p = go (touches x a p)
+  where
+    go : (t : Bool) → put (putIf t x xs a b p) (suc b) (suc b) p ≡ putIf t x xs a (suc b) p
+    go true = rw touches-self
+    go false = rw touches-self
+
+push-push : (L : List Stretch) (a b : ℕ) (p : Pair) → push (push L a b p) (suc b) (suc b) p ≡ push L a (suc b) p
+unfolding push
+push-push L a b p = go (eqb (p .possible) 0)
+  where
+    go : (t : Bool) → pushIf t (pushIf t L a b p) (suc b) (suc b) p ≡ pushIf t L a (suc b) p
+    go true = refl
+    go false = put-put L a b p
+
+module _ (f : Pairs) where
+  pub newest-run : (a b : ℕ) (p : Pair) → a ≤ b → ((k : ℕ) → a ≤ k → k ≤ b → f k ≡ p) → newest (suc b) f ≡ push (newest a f) a b p
+  unfolding newest
+  newest-run a b p l h = le-ind (λ (m : ℕ). ((k : ℕ) → a ≤ k → k ≤ m → f k ≡ p) → newest (suc m) f ≡ push (newest a f) a m p)
+      (λ h. ap (push (newest a f) a a) (h a (le-refl a) (le-refl a)))
+      (λ m l ih h. ap₂ (λ (L : List Stretch) (p : Pair). push L (suc m) (suc m) p) (ih (λ k c d. h k c (omega arith))) (h (suc m) (omega arith) (omega arith)) ∙ push-push (newest a f) a m p)
+      b l h
+
+  pub newest-skip : (a b : ℕ) → a ≤ b → ((k : ℕ) → a ≤ k → k < b → f k .possible ≡ 0) → newest b f ≡ newest a f
+  unfolding newest
+  newest-skip a b l h = le-ind (λ (m : ℕ). ((k : ℕ) → a ≤ k → k < m → f k .possible ≡ 0) → newest m f ≡ newest a f)
+      (λ h. refl) (λ m l ih h. push-none (newest m f) m m (f m) (h m l (omega arith)) ∙ ih (λ k c d. h k c (omega arith))) b l h
+
+pub newest-cong : (n : ℕ) (f g : Pairs) → ((k : ℕ) → k < n → f k ≡ g k) → newest n f ≡ newest n g
+unfolding newest
+newest-cong zero f g h = refl
+newest-cong (suc n) f g h = ap₂ (λ (L : List Stretch) (p : Pair). push L n n p) (newest-cong n f g (λ k l. h k (omega arith))) (h n (omega arith))
+
+-- ---- more ages never need fewer stretches
+
+push-length : (L : List Stretch) (a b : ℕ) (p : Pair) → length L ≤ length (push L a b p)
+unfolding push
+push-length L a b p = go (eqb (p .possible) 0)
+  where
+    put-length : (L : List Stretch) → length L ≤ length (put L a b p)
+    put-length [] = omega arith
+    put-length (x ∷ xs) = more (touches x a p)
+      where
+        more : (t : Bool) → length (x ∷ xs) ≤ length (putIf t x xs a b p)
+        more true = omega arith
+        more false = omega arith
+
+    go : (t : Bool) → length L ≤ length (pushIf t L a b p)
+    go true = le-refl (length L)
+    go false = put-length L
+
+pub newest-length : (f : Pairs) (m n : ℕ) → m ≤ n → length (newest m f) ≤ length (newest n f)
+unfolding newest
+newest-length f m n l = le-ind (λ (k : ℕ). length (newest m f) ≤ length (newest k f)) (le-refl (length (newest m f)))
+    (λ k c ih. le-trans ih (push-length (newest k f) k k (f k))) n l
+
+-- ---- what a list of stretches says of an age: the pair of the first stretch that has it in it
+
+unfoldable pub meaning : List Stretch → Pairs
+meaning [] k = noPair
+meaning (x ∷ xs) k = cond (inside x k) (x .pair) (meaning xs k)
+
+pub meaning-in : (x : Stretch) (xs : List Stretch) (k : ℕ) → x .first ≤ k → k ≤ x .last → meaning (x ∷ xs) k ≡ x .pair
+unfolding meaning
+meaning-in x xs k l h = ap (λ (t : Bool). cond t (x .pair) (meaning xs k)) (is-true (inside x k) (inside-iff x k .1 (l, h)))
+
+pub meaning-out : (x : Stretch) (xs : List Stretch) (k : ℕ) → ¬ ((x .first ≤ k) × (k ≤ x .last)) → meaning (x ∷ xs) k ≡ meaning xs k
+unfolding meaning
+meaning-out x xs k n = ap (λ (t : Bool). cond t (x .pair) (meaning xs k)) (is-false (inside x k) (λ h. n (inside-iff x k .0 h)))
+
+-- ---- proper lists, the newest first
+
+-- x does not go on where the stretch before it ended
+abbrev pub Apart : Stretch → List Stretch → Type 0
+Apart x [] = Unit {0}
+Apart x (y ∷ ys) = suc (y .last) ≡ x .first → y .pair ≢ x .pair
+
+module _ (P : Pair → Type 0) where
+  pub record Good (b : ℕ) (x : Stretch) : Type 0 where
+    pub pair : P (x .pair)
+    pub below : x .last < b
+    pub order : x .first ≤ x .last
+    pub some : x .pair .possible ≢ 0
+
+  -- of ages below b
+  abbrev pub ProperList : ℕ → List Stretch → Type 0
+  ProperList b [] = Unit {0}
+  ProperList b (x ∷ xs) = Good b x × Apart x xs × ProperList (x .first) xs
+
+  pub meaning-above : (L : List Stretch) (b k : ℕ) → ProperList b L → b ≤ k → meaning L k ≡ noPair
+  unfolding meaning
+  meaning-above [] b k h l = refl
+  meaning-above (x ∷ xs) b k h l = meaning-out x xs k (λ i. omega (arith, h .0 .below)) ∙ meaning-above xs (x .first) k (h .2) (omega (arith, h .0 .below, h .0 .order))
+
+  pub put-apart : (x : Stretch) (xs : List Stretch) → Apart x xs → put xs (x .first) (x .last) (x .pair) ≡ x ∷ xs
+  put-apart x [] h = refl
+  put-apart x (y ∷ ys) h =
+      ap (λ (t : Bool). putIf t y ys (x .first) (x .last) (x .pair))
+      (is-false (touches y (x .first) (x .pair)) (λ t. let e = touches-iff y (x .first) (x .pair) .0 t in h (e .0) (e .1)))
+
+  -- a proper list is the list of the stretches of its meaning
+  pub canon : (L : List Stretch) (b : ℕ) → ProperList b L → newest b (meaning L) ≡ L
+  unfolding newest meaning
+  canon [] b h = newest-skip (meaning []) 0 b (omega arith) (λ k l m. refl)
+  canon (x ∷ xs) b h = steps (canon xs (x .first) (h .2))
+    where
+      f : Pairs
+      f = meaning (x ∷ xs)
+
+      steps : newest (x .first) (meaning xs) ≡ xs → newest b f ≡ x ∷ xs
+      steps ih =
+          newest-skip f (suc (x .last)) b (h .0 .below)
+          (λ k l u. ap (λ (p : Pair). p .possible) (meaning-out x xs k (λ i. omega arith) ∙ meaning-above xs (x .first) k (h .2) (omega (arith, h .0 .order))))
+          ∙ newest-run f (x .first) (x .last) (x .pair) (h .0 .order) (λ k l u. meaning-in x xs k l u)
+          ∙ ap (λ (L : List Stretch). push L (x .first) (x .last) (x .pair)) (newest-cong (x .first) f (meaning xs) (λ k l. meaning-out x xs k (λ i. omega arith)) ∙ ih)
+          ∙ push-some xs (x .first) (x .last) (x .pair) (h .0 .some)
+          ∙ put-apart x xs (h .1)
+
+  -- ---- the list of f is proper
+
+  proper-le : (L : List Stretch) {a b : ℕ} → a ≤ b → ProperList a L → ProperList b L
+  proper-le [] l h = tt
+  proper-le (x ∷ xs) l h = (record { pair = h .0 .pair; below = omega (arith, h .0 .below); order = h .0 .order; some = h .0 .some }, h .1, h .2)
+
+  apart-as : (x z : Stretch) (xs : List Stretch) → x .first ≡ z .first → x .pair ≡ z .pair → Apart x xs → Apart z xs
+  apart-as x z [] e p h = tt
+  apart-as x z (y ∷ ys) e p h = λ c q. h (c ∙ sym e) (q ∙ sym p)
+
+  put-proper : (L : List Stretch) (a b : ℕ) (p : Pair) → a ≤ b → P p → p .possible ≢ 0 → ProperList a L → ProperList (suc b) (put L a b p)
+  put-proper [] a b p l o n h = (record { pair = o; below = le-refl (suc b); order = l; some = n }, tt, tt)
+  put-proper (x ∷ xs) a b p l o n h = go (touches x a p) refl
+    where
+      go : (t : Bool) → touches x a p ≡ t → ProperList (suc b) (putIf t x xs a b p)
+      go true e = let k = touches-iff x a p .0 (subst Is (sym e) tt) in
+          (record { pair = o; below = le-refl (suc b); order = omega (arith, h .0 .below, h .0 .order); some = n }, apart-as x (stretch (x .first) b p) xs refl (k .1) (h .1), h .2)
+      go false e = (record { pair = o; below = le-refl (suc b); order = l; some = n }, (λ c q. subst Is e (touches-iff x a p .1 (c, q))), h)
+
+  push-proper : (L : List Stretch) (a b : ℕ) (p : Pair) → a ≤ b → P p → ProperList a L → ProperList (suc b) (push L a b p)
+  push-proper L a b p l o h = go (ℕ-discrete (p .possible) 0)
+    where
+      go : Dec (p .possible ≡ 0) → ProperList (suc b) (push L a b p)
+      go (yes e) = rw (push-none L a b p e) (proper-le L (omega arith) h)
+      go (no n) = rw (push-some L a b p n) (put-proper L a b p l o n h)
+
+  pub newest-proper : (n : ℕ) (f : Pairs) → ((k : ℕ) → k < n → P (f k)) → ProperList n (newest n f)
+  unfolding newest
+  newest-proper zero f o = tt
+  newest-proper (suc n) f o = push-proper (newest n f) n n (f n) (le-refl n) (o n (omega arith)) (newest-proper n f (λ k l. o k (omega arith)))
+
+  -- ---- the list of f says f, where a pair with nothing possible is the pair of two empty sets
+
+  put-in : (L : List Stretch) (a b : ℕ) (p : Pair) → ProperList a L → (k : ℕ) → a ≤ k → k ≤ b → meaning (put L a b p) k ≡ p
+  put-in [] a b p h k l u = meaning-in (stretch a b p) [] k l u
+  put-in (x ∷ xs) a b p h k l u = go (touches x a p)
+    where
+      go : (t : Bool) → meaning (putIf t x xs a b p) k ≡ p
+      go true = meaning-in (stretch (x .first) b p) xs k (omega (arith, h .0 .below, h .0 .order)) u
+      go false = meaning-in (stretch a b p) (x ∷ xs) k l u
+
+  put-below : (L : List Stretch) (a b : ℕ) (p : Pair) → a ≤ b → ProperList a L → (k : ℕ) → k < a → meaning (put L a b p) k ≡ meaning L k
+  put-below [] a b p ab h k l = meaning-out (stretch a b p) [] k (λ i. omega arith)
+  put-below (x ∷ xs) a b p ab h k l = go (touches x a p) refl
+    where
+      go : (t : Bool) → touches x a p ≡ t → meaning (putIf t x xs a b p) k ≡ meaning (x ∷ xs) k
+      go false e = meaning-out (stretch a b p) (x ∷ xs) k (λ i. omega arith)
+      go true e = low (touches-iff x a p .0 (subst Is (sym e) tt)) (decLe (x .first) k)
+        where
+          low : (suc (x .last) ≡ a) × (x .pair ≡ p) → Dec (x .first ≤ k) → meaning (stretch (x .first) b p ∷ xs) k ≡ meaning (x ∷ xs) k
+          low t (yes c) = meaning-in (stretch (x .first) b p) xs k c (omega arith) ∙ sym (t .1) ∙ sym (meaning-in x xs k c (omega arith))
+          low t (no c) = meaning-out (stretch (x .first) b p) xs k (λ i. c (i .0)) ∙ sym (meaning-out x xs k (λ i. c (i .0)))
+
+  module _ (empty : (p : Pair) → P p → p .possible ≡ 0 → p ≡ noPair) where
+    pub meaning-newest : (n : ℕ) (f : Pairs) → ((k : ℕ) → k < n → P (f k)) → (k : ℕ) → k < n → meaning (newest n f) k ≡ f k
+    unfolding newest
+    meaning-newest zero f h k l = absurd (let z : ⊥ = omega arith in z)
+    meaning-newest (suc n) f h k l = go (ℕ-discrete (f n .possible) 0) (ℕ-discrete k n) (meaning-newest n f (λ j b. h j (omega arith)) k)
+      where
+        L : List Stretch
+        L = newest n f
+
+        proper : ProperList n L
+        proper = newest-proper n f (λ j b. h j (omega arith))
+
+        go : Dec (f n .possible ≡ 0) → Dec (k ≡ n) → (k < n → meaning L k ≡ f k) → meaning (push L n n (f n)) k ≡ f k
+        go (yes e) (yes d) ih = rw (push-none L n n (f n) e) (meaning-above L n k proper (omega arith) ∙ sym (empty (f n) (h n (omega arith)) e) ∙ ap f (sym d))
+        go (yes e) (no d) ih = rw (push-none L n n (f n) e) (ih (omega arith))
+        go (no c) (yes d) ih = rw (push-some L n n (f n) c) (put-in L n n (f n) proper k (omega arith) (omega arith) ∙ ap f (sym d))
+        go (no c) (no d) ih = rw (push-some L n n (f n) c) (put-below L n n (f n) (le-refl n) proper k (omega arith) ∙ ih (omega arith))

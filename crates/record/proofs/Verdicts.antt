@@ -1,0 +1,121 @@
+-- What the verdict and `settled` say of the two sets that the pairs stand for (`verdict-yes`, `verdict-no`, `settled-same`). Hence
+-- demand 2, for what has become of a start's pairs (`start-yes`, `start-no`), and demand 3, for what has become of a gap's,
+-- said of every set that may have stood at its end (`gap-yes`, `gap-no`, `gap-unsure`, `gap-settled`). Assumes nothing.
+use Prim.Native.Nat.{ℕ, zero, suc, _≤_, _<_}
+use mathlib.Core.Path.{_≡_, refl, sym, ap, _∙_, subst}
+use mathlib.Core.Logic.{_↔_, _⊎_, inl, inr, _≢_, ⊎-elim, Iff·trans, Iff·symm, Iff·not, Iff·and}
+use mathlib.Core.Bool.{Bool, true, false, _&&_, not}
+use native.Mathlib.Omega.{arith}
+use lib.Dec.{T as Is, eqb}
+use Rattle.base.specs.Masks.{all}
+use Rattle.base.proofs.Tests.{eqb-iff, all-iff}
+use Rattle.meaning.specs.Tables.{Table, horizon}
+use Rattle.meaning.specs.Runs.{Word, Accepted}
+use Rattle.meaning.specs.Sets.{Confs, after, Accepts, Initial, Nothing, Everything, Over, Same}
+use Rattle.meaning.specs.Ages.{acceptsAt}
+use Rattle.meaning.proofs.Runs.{accepted-iff}
+use Rattle.meaning.proofs.Sets.{accepts-mono, yes-iff, no-iff, settled-iff}
+use Rattle.meaning.proofs.Ages.{accepts-stands, settled-stands}
+use Rattle.record.specs.declared.Pair.{Pair}
+use Rattle.record.specs.Pairs.{Pairs, sures, possibles, startPairs, gapPairs, afterPairs, Verdict, says-yes, says-no, unsure, decide, verdictAt, settledAt}
+use Rattle.record.proofs.Pairs.{Stands, start-stands, gap-stands, after-stand}
+
+-- the three verdicts are three
+code : Verdict → ℕ
+code says-yes = 0
+code says-no = 1
+code unsure = 2
+
+differ : (v w : Verdict) → code v ≢ code w → v ≢ w
+differ v w n e = n (ap code e)
+
+decide-yes : (s p : Bool) → (decide s p ≡ says-yes) ↔ Is s
+unfolding code
+decide-yes true p = ((λ e. tt), λ h. refl)
+decide-yes false true = ((λ e. differ unsure says-yes (λ z. omega arith) e), λ h. absurd h)
+decide-yes false false = ((λ e. differ says-no says-yes (λ z. omega arith) e), λ h. absurd h)
+
+decide-no : (s p : Bool) → (Is s → Is p) → (decide s p ≡ says-no) ↔ (¬ Is p)
+unfolding code
+decide-no true p h = ((λ e. absurd (differ says-yes says-no (λ z. omega arith) e)), λ n. absurd (n (h tt)))
+decide-no false true h = ((λ e. absurd (differ unsure says-no (λ z. omega arith) e)), λ n. absurd (n tt))
+decide-no false false h = ((λ e z. z), λ n. refl)
+
+-- "unsure otherwise"
+pub unsure-iff : (v : Verdict) → (v ≡ unsure) ↔ ((v ≢ says-yes) × (v ≢ says-no))
+unfolding code
+unsure-iff says-yes = ((λ e. absurd (differ says-yes unsure (λ z. omega arith) e)), λ h. absurd (h .0 refl))
+unsure-iff says-no = ((λ e. absurd (differ says-no unsure (λ z. omega arith) e)), λ h. absurd (h .1 refl))
+unsure-iff unsure = ((λ e. (differ unsure says-yes (λ z. omega arith), differ unsure says-no (λ z. omega arith))), λ h. refl)
+
+module _ (T : Table) (f : Pairs) (A B : Confs) (s : Stands T f A B) where
+  pub verdict-yes : (verdictAt T f ≡ says-yes) ↔ Accepts T A
+  unfolding verdictAt
+  verdict-yes = Iff·trans (decide-yes (acceptsAt T (sures f)) (acceptsAt T (possibles f))) (accepts-stands T (sures f) A (s .sure))
+
+  pub verdict-no : (verdictAt T f ≡ says-no) ↔ (¬ Accepts T B)
+  unfolding verdictAt
+  verdict-no = Iff·trans (decide-no (acceptsAt T (sures f)) (acceptsAt T (possibles f)) (λ h. possible .1 (accepts-mono T A B (s .within) (sure .0 h)))) (Iff·not possible)
+    where
+      sure : Is (acceptsAt T (sures f)) ↔ Accepts T A
+      sure = accepts-stands T (sures f) A (s .sure)
+
+      possible : Is (acceptsAt T (possibles f)) ↔ Accepts T B
+      possible = accepts-stands T (possibles f) B (s .possible)
+
+  pub settled-same : Is (settledAt T f) ↔ Same (horizon T) A B
+  unfolding settledAt
+  settled-same = Iff·trans (all-iff (suc (suc (horizon T))) (λ k. eqb (f k .sure) (f k .possible)))
+      (Iff·trans ((λ h k l. eqb-iff (f k .sure) (f k .possible) .0 (h k (omega arith))), λ h k l. eqb-iff (f k .sure) (f k .possible) .1 (h k (omega arith)))
+      (settled-stands (horizon T) (sures f) (possibles f) A B (s .sure) (s .possible)))
+
+module _ (T : Table) (w : Word) where
+  -- ---- demand 2: with no gap since the start
+
+  abbrev pub sinceStart : Pairs
+  sinceStart = afterPairs T (startPairs T) w
+
+  after-start : Stands T sinceStart (after T (Initial T) w) (after T (Initial T) w)
+  after-start = after-stand T (startPairs T) (Initial T) (Initial T) (start-stands T) w
+
+  -- yes exactly when some accepting run exists over the symbols
+  pub start-yes : (verdictAt T sinceStart ≡ says-yes) ↔ Accepted T w
+  start-yes = Iff·trans (verdict-yes T sinceStart (after T (Initial T) w) (after T (Initial T) w) after-start) (Iff·symm (accepted-iff T w))
+
+  -- otherwise no
+  pub start-no : (verdictAt T sinceStart ≡ says-no) ↔ (¬ Accepted T w)
+  start-no = Iff·trans (verdict-no T sinceStart (after T (Initial T) w) (after T (Initial T) w) after-start) (Iff·not (Iff·symm (accepted-iff T w)))
+
+  -- never unsure
+  pub start-sure : verdictAt T sinceStart ≢ unsure
+  start-sure e = let u = unsure-iff (verdictAt T sinceStart) .0 e in u .1 (start-no .1 (λ h. u .0 (start-yes .1 h)))
+
+  -- ---- demand 3: after a gap, for every set S of configurations that may have stood at its end, the empty one too
+
+  abbrev pub sinceGap : Pairs
+  sinceGap = afterPairs T (gapPairs T) w
+
+  after-gap : Stands T sinceGap (after T Nothing w) (after T (Everything T) w)
+  after-gap = after-stand T (gapPairs T) Nothing (Everything T) (gap-stands T) w
+
+  -- yes exactly if the symbols since lead to acceptance from every such set
+  pub gap-yes : (verdictAt T sinceGap ≡ says-yes) ↔ ((S : Confs) → Over T S → Accepts T (after T S w))
+  gap-yes = Iff·trans (verdict-yes T sinceGap (after T Nothing w) (after T (Everything T) w) after-gap) (Iff·symm (yes-iff T w))
+
+  -- no exactly if from none
+  pub gap-no : (verdictAt T sinceGap ≡ says-no) ↔ ((S : Confs) → Over T S → ¬ Accepts T (after T S w))
+  gap-no = Iff·trans (verdict-no T sinceGap (after T Nothing w) (after T (Everything T) w) after-gap) (Iff·symm (no-iff T w))
+
+  -- unsure otherwise
+  pub gap-unsure : (verdictAt T sinceGap ≡ unsure)
+      ↔ ((¬ ((S : Confs) → Over T S → Accepts T (after T S w))) × (¬ ((S : Confs) → Over T S → ¬ Accepts T (after T S w))))
+  gap-unsure = Iff·trans (unsure-iff (verdictAt T sinceGap)) (Iff·and (Iff·not gap-yes) (Iff·not gap-no))
+
+  -- settled exactly if all those sets led to one and the same set, ages beyond the horizon counted as one
+  pub gap-settled : Is (settledAt T sinceGap) ↔ ((R S : Confs) → Over T R → Over T S → Same (horizon T) (after T R w) (after T S w))
+  gap-settled = Iff·trans (settled-same T sinceGap (after T Nothing w) (after T (Everything T) w) after-gap) (Iff·symm (settled-iff T (horizon T) w))
+
+  -- with no gap the two sets are one: always settled
+  pub start-settled : Is (settledAt T sinceStart)
+  start-settled = settled-same T sinceStart (after T (Initial T) w) (after T (Initial T) w) after-start .1
+      (record { low = λ q t l. ((λ h. h), λ h. h); beyond = λ q. ((λ h. h), λ h. h) })

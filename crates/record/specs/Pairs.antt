@@ -1,0 +1,59 @@
+-- The two sets that the watch carries, age by age: a pair, sure and possible, for each age 0 to H, and one for all ages
+-- above H, kept at the age H + 1 (document 01, Configurations and steps; The record). Assumes nothing: these are definitions.
+use Prim.Native.Nat.{ℕ, zero, suc}
+use mathlib.Core.Bool.{Bool, true, false}
+use lib.Dec.{eqb}
+use Rattle.base.specs.Masks.{all}
+use Rattle.meaning.specs.Tables.{Table, horizon}
+use Rattle.meaning.specs.Runs.{Symbol, Word, empty, _▷_}
+use Rattle.meaning.specs.Ages.{stepAt, initialAt, nothingAt, everythingAt, acceptsAt}
+use Rattle.record.specs.declared.Pair.{Pair}
+
+-- the pair of each age
+abbrev pub Pairs : Type 0
+Pairs = ℕ → Pair
+
+-- the pair of two empty sets
+abbrev pub noPair : Pair
+noPair = record { sure = 0; possible = 0 }
+
+abbrev pub sures : Pairs → ℕ → ℕ
+sures f k = f k .sure
+
+abbrev pub possibles : Pairs → ℕ → ℕ
+possibles f k = f k .possible
+
+-- "At the start both are the initial states at age 0."
+unfoldable pub startPairs : Table → Pairs
+startPairs T k = record { sure = initialAt T k; possible = initialAt T k }
+
+-- "a gap makes the sure set empty and the possible set all n states at every age"
+unfoldable pub gapPairs : Table → Pairs
+gapPairs T k = record { sure = nothingAt k; possible = everythingAt T k }
+
+-- "Letters and spans step both."
+unfoldable pub stepPairs : Table → Symbol → Pairs → Pairs
+stepPairs T x f k = record { sure = stepAt T x (sures f) k; possible = stepAt T x (possibles f) k }
+
+-- the pairs that f has become after the word
+unfoldable pub afterPairs : Table → Pairs → Word → Pairs
+afterPairs T f empty = f
+afterPairs T f (w ▷ x) = stepPairs T x (afterPairs T f w)
+
+pub data Verdict : Type 0 where
+  says-yes : Verdict
+  says-no : Verdict
+  unsure : Verdict
+
+-- "yes if the sure set accepts; no if the possible set doesn't; unsure otherwise", of what the two sets do
+abbrev pub decide : Bool → Bool → Verdict
+decide true p = says-yes
+decide false false = says-no
+decide false true = unsure
+
+unfoldable pub verdictAt : Table → Pairs → Verdict
+verdictAt T f = decide (acceptsAt T (sures f)) (acceptsAt T (possibles f))
+
+-- "Settled: the two sets are equal, all ages above H taken as one."
+unfoldable pub settledAt : Table → Pairs → Bool
+settledAt T f = all (suc (suc (horizon T))) (λ k. eqb (f k .sure) (f k .possible))
