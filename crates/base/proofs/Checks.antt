@@ -38,14 +38,21 @@ _and-then_ {m = zero} p q = record { iff = ((λ e. (p .iff .0 refl, q .iff .0 e)
 _and-then_ {m = suc m} p q = record { iff = ((λ e. absurd (let z : ⊥ = omega arith in z)), λ h. p .iff .1 (h .0)) }
 
 -- a check for each number below n
-pub each : (n : ℕ) {f : ℕ → ℕ} {A : ℕ → Type 0} → ((k : ℕ) → Passes (f k) (A k)) → Passes (firstOf n f) ((k : ℕ) → k < n → A k)
+pub each : (n : ℕ) {f : ℕ → ℕ} {A : ℕ → Type 0} → ((k : ℕ) → Passes (f k) (A k))
+    → Passes (firstOf n f) ((k : ℕ) → k < n → A k)
 unfolding firstOf
 each zero p = record { iff = ((λ e k l. absurd (not-suc-le-zero l)), λ h. refl) }
-each (suc n) {A = A} p = record { iff = Iff·trans ((each n p and-then p n) .iff) ((λ h k l. go h k l (ℕ-discrete k n)), λ h. ((λ k l. h k (omega arith)), h n (omega arith))) }
+each (suc n) {A = A} p = record { iff = Iff·trans ((each n p and-then p n) .iff) (to, from) }
   where
-    go : ((k : ℕ) → k < n → A k) × A n → (k : ℕ) → k < suc n → Dec (k ≡ n) → A k
-    go h k l (yes e) = subst A (sym e) (h .1)
-    go h k l (no d) = h .0 k (omega arith)
+    to : ((k : ℕ) → k < n → A k) × A n → (k : ℕ) → k < suc n → A k
+    to h k l = go (ℕ-discrete k n)
+      where
+        go : Dec (k ≡ n) → A k
+        go (yes e) = subst A (sym e) (h .1)
+        go (no d) = h .0 k (omega arith)
+
+    from : ((k : ℕ) → k < suc n → A k) → ((k : ℕ) → k < n → A k) × A n
+    from h = ((λ k l. h k (omega arith)), h n (omega arith))
 
 -- what each test of the checks says where it fails
 pub below : (m n : ℕ) → Fails (leb m n) (n < m)
@@ -55,7 +62,11 @@ pub at-most : (m n : ℕ) → Fails (ltb m n) (n ≤ m)
 at-most m n = record { iff = ((λ h. nltb→le m n (not-T (ltb m n) h)), λ l t. omega (arith, ltb→lt m n t)) }
 
 pub not-zero : (m : ℕ) → Fails (eqb m 0) (1 ≤ m)
-not-zero m = record { iff = ((λ h. let n : ¬ (m ≡ 0) = λ e. h (eqb-iff m 0 .1 e) in omega arith), λ l t. omega (arith, eqb→eq m 0 t)) }
+not-zero m = record { iff = (to, λ l t. omega (arith, eqb→eq m 0 t)) }
+  where
+    to : ¬ Is (eqb m 0) → 1 ≤ m
+    to h = let n : ¬ (m ≡ 0) = λ e. h (eqb-iff m 0 .1 e) in
+        omega arith
 
 -- a test turned round
 pub unless : (t : Bool) {A : Type 0} → Is t ↔ A → Fails (not t) A

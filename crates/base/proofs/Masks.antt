@@ -1,6 +1,6 @@
 -- Sets of states: two masks with the same states are the same mask (`ext-has`), and which states a mask made of others has
--- (`has-or`, `has-and`, `has-bit`, `has-full`, `has-pick`, `has-cond`, `has-union`). Then: below 2 ^ n, parts, the empty mask, the
--- tests `hasb` and `m / 2 ^ i % 2`, and the largest of some numbers, `le-most` and `most-le`. Assumes nothing.
+-- (`has-or`, `has-and`, `has-bit`, `has-full`, `has-pick`, `has-cond`, `has-union`). Then: below 2 ^ n, parts, the empty mask,
+-- the tests `hasb` and `m / 2 ^ i % 2`, and the largest of some numbers, `le-most` and `most-le`. Assumes nothing.
 use Prim.Native.Nat.{ℕ, zero, suc, _-_, _/_, _%_, _^_, _≤_, _<_, suc-le-suc, min, max}
 use mathlib.Core.Path.{_≡_, refl, sym, ap, _∙_, subst}
 use mathlib.Core.Logic.{_↔_, _⊎_, inl, inr, _≢_, ⊎-elim, Iff·rfl}
@@ -10,7 +10,7 @@ use native.Mathlib.Decide.{ℕ-discrete}
 use native.Mathlib.Omega.{arith}
 use lib.Arith.{digits-mod, lt-one, bin-ind}
 use lib.Bits.{bitOr, bitAnd, or-step, and-step, or-shr, and-shr}
-use lib.Dec.{T as Is, eqb}
+use lib.Dec.{T as Is}
 use lib.Pow.{pow-pos}
 use Rattle.base.specs.Masks.{Has, hasb, Part, pick, union, most}
 use Rattle.base.proofs.Tests.{eqb-iff}
@@ -35,12 +35,15 @@ ext-has = bin-ind (λ (a : ℕ). (b : ℕ) → ((i : ℕ) → Has a i ↔ Has b 
   where
     none : (b : ℕ) → ((i : ℕ) → ¬ Has b i) → 0 ≡ b
     none = bin-ind (λ (b : ℕ). ((i : ℕ) → ¬ Has b i) → 0 ≡ b) (λ h. refl)
-        (λ b ih h. let e : 0 ≡ b / 2 = ih (λ i. h (suc i)) in let n : ¬ (b % 2 ≡ 1) = h 0 in omega arith)
+        (λ b ih h. let e : 0 ≡ b / 2 = ih (λ i. h (suc i)) in
+        let n : ¬ (b % 2 ≡ 1) = h 0 in
+        omega arith)
 
     base : (b : ℕ) → ((i : ℕ) → Has 0 i ↔ Has b i) → 0 ≡ b
     base b h = none b (λ i hb. not-has-zero i (h i .1 hb))
 
-    step : (a : ℕ) → ((b : ℕ) → ((i : ℕ) → Has (a / 2) i ↔ Has b i) → a / 2 ≡ b) → (b : ℕ) → ((i : ℕ) → Has a i ↔ Has b i) → a ≡ b
+    step : (a : ℕ) → ((b : ℕ) → ((i : ℕ) → Has (a / 2) i ↔ Has b i) → a / 2 ≡ b)
+        → (b : ℕ) → ((i : ℕ) → Has a i ↔ Has b i) → a ≡ b
     step a ih b h = go (low-cases a) (low-cases b)
       where
         e : a / 2 ≡ b / 2
@@ -130,7 +133,10 @@ has-union (suc n) f q = (to (has-union n f q), from (has-union n f q))
     Some m = (u : ℕ) × (u < m) × Has (f u) q
 
     to : Has (union n f) q ↔ Some n → Has (bitOr (union n f) (f n)) q → Some (suc n)
-    to ih h = ⊎-elim (λ k. let r = ih .0 k in (r .0, omega arith, r .2)) (λ k. (n, omega arith, k)) (has-or (union n f) (f n) q .0 h)
+    to ih h = ⊎-elim
+        (λ k. let r = ih .0 k in (r .0, omega arith, r .2))
+        (λ k. (n, omega arith, k))
+        (has-or (union n f) (f n) q .0 h)
 
     from : Has (union n f) q ↔ Some n → Some (suc n) → Has (bitOr (union n f) (f n)) q
     from ih r = has-or (union n f) (f n) q .1 (go (ℕ-discrete (r .0) n))
@@ -150,7 +156,9 @@ has-below (suc n) m (suc i) l h = suc-le-suc (has-below n (m / 2) i (omega (arit
 pub below-has : (n m : ℕ) → ((i : ℕ) → Has m i → i < n) → m < 2 ^ n
 unfolding Has
 below-has zero m h = subst (λ (x : ℕ). x < 1) (sym (empty-mask m (λ i z. not-suc-le-zero (h i z)))) (omega arith)
-below-has (suc n) m h = rw pow-suc (let ih : m / 2 < 2 ^ n = below-has n (m / 2) (λ i k. omega (arith, h (suc i) k)) in omega arith)
+below-has (suc n) m h = rw pow-suc (
+    let ih : m / 2 < 2 ^ n = below-has n (m / 2) (λ i k. omega (arith, h (suc i) k)) in
+    omega arith)
 
 -- ---- a part of another: what `a | b == b` tests
 

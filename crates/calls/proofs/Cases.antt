@@ -14,7 +14,8 @@ use Rattle.meaning.specs.Ages.{image, freshAt, letterAt, spanAt, stepAt, accept
 use Rattle.faults.specs.Faults.{badCounts, badLength, badMasks, badParts, badAges, lineFault, tableFault}
 use Rattle.record.specs.declared.Pair.{Pair}
 use Rattle.record.specs.declared.Record.{Record}
-use Rattle.record.specs.Pairs.{noPair, startPairs, gapPairs, stepPairs, Verdict, says-yes, says-no, unsure, verdictAt, settledAt}
+use Rattle.record.specs.Pairs.{noPair, startPairs, gapPairs, stepPairs}
+use Rattle.record.specs.Verdicts.{Verdict, says-yes, says-no, unsure, verdictAt, settledAt}
 use Rattle.record.specs.Stretches.{stretch, touches, push, newest}
 use Rattle.record.specs.Records.{blankRecord, inside, pairIn, pairsAt, recordOf, pairOkb, heldb, followsb, blankb, placeOkb, properb}
 use Rattle.record.proofs.Cases.{made}
@@ -39,7 +40,8 @@ call b r (span s) = spanOf b r s
 call b r gap = gapOf b r
 
 unfoldable pub shown : List ℕ → Answer → Shown
-shown b x = elim (x .number) [ zero ↦ line (verdictOf b (x .next)) (settledOf b (x .next)) (countOf b (x .next)) | suc n ↦ number (suc n) ]
+shown b x = elim (x .number)
+    [ zero ↦ line (verdictOf b (x .next)) (settledOf b (x .next)) (countOf b (x .next)) | suc n ↦ number (suc n) ]
 
 -- each entry by the record that the one before it handed on
 unfoldable pub lines : List ℕ → Answer → List Entry → List Shown
@@ -64,7 +66,11 @@ pub the-session :
     × (lines board-table (startOf board-table 1) entries
     ≡ settled says-no 1 ∷ settled says-yes 1 ∷ settled says-yes 1 ∷ number 11 ∷ settled says-yes 0 ∷ settled says-no 1
     ∷ left-open unsure 1 ∷ number 11 ∷ left-open unsure 1 ∷ left-open unsure 1 ∷ number 10 ∷ number 9 ∷ [])
-unfolding lines shown call entries settled left-open startFault recordFault letterFault spanFault startOf letterOf spanOf gapOf verdictOf settledOf countOf inside pairIn pairsAt recordOf pairOkb heldb followsb blankb placeOkb properb touches push newest startPairs gapPairs stepPairs verdictAt settledAt badCounts badLength badMasks badParts badAges lineFault tableFault image freshAt letterAt spanAt stepAt acceptsAt tableOf horizon acceptingAt headOf lineAt hasb union most all firstOf
+unfolding lines shown call entries settled left-open startFault recordFault letterFault spanFault startOf letterOf
+    spanOf gapOf verdictOf settledOf countOf inside pairIn pairsAt recordOf pairOkb heldb followsb blankb placeOkb
+    properb touches push newest startPairs gapPairs stepPairs verdictAt settledAt badCounts badLength badMasks
+    badParts badAges lineFault tableFault image freshAt letterAt spanAt stepAt acceptsAt tableOf horizon acceptingAt
+    headOf lineAt hasb union most all firstOf
 the-session = (refl, refl)
 
 -- ---- records of the session
@@ -82,22 +88,35 @@ pub the-records :
     -- the start: waiting at age 0
     (startOf board-table 4 ≡ record { number = 0; next = made 4 1 (stretch 0 0 (both 1) ∷ []) noPair })
     -- entry 3: waiting at age 0, fresh at age 5
-    × (after board-table (startOf board-table 4) (letter 0 ∷ span 5 ∷ letter 1 ∷ []) ≡ record { number = 0; next = made 4 2 (stretch 0 0 (both 1) ∷ stretch 5 5 (both 2) ∷ []) noPair })
+    × (after board-table (startOf board-table 4) (letter 0 ∷ span 5 ∷ letter 1 ∷ [])
+    ≡ record { number = 0; next = made 4 2 (stretch 0 0 (both 1) ∷ stretch 5 5 (both 2) ∷ []) noPair })
     -- entry 4: fresh above H, waiting at age 1
-    × (after board-table (startOf board-table 4) (letter 0 ∷ span 5 ∷ letter 1 ∷ span 1 ∷ []) ≡ record { number = 0; next = made 4 1 (stretch 1 1 (both 1) ∷ []) (both 2) })
+    × (after board-table (startOf board-table 4) (letter 0 ∷ span 5 ∷ letter 1 ∷ span 1 ∷ [])
+    ≡ record { number = 0; next = made 4 1 (stretch 1 1 (both 1) ∷ []) (both 2) })
     -- entry 6, the gap: everything possible, nothing sure
-    × (after board-table (startOf board-table 4) (gap ∷ []) ≡ record { number = 0; next = made 4 1 (stretch 0 5 (record { sure = 0; possible = 3 }) ∷ []) (record { sure = 0; possible = 3 }) })
+    × (after board-table (startOf board-table 4) (gap ∷ []) ≡ record {
+      number = 0;
+      next = made 4 1 (stretch 0 5 (record { sure = 0; possible = 3 }) ∷ []) (record { sure = 0; possible = 3 });
+    })
     -- a gap after a gap gives the same record
     × (after board-table (startOf board-table 4) (gap ∷ gap ∷ []) ≡ after board-table (startOf board-table 4) (gap ∷ []))
     -- entry 7: waiting is sure at age 0, and fresh is possible at ages 0 to 5
-    × (after board-table (startOf board-table 4) (gap ∷ letter 1 ∷ [])
-    ≡ record { number = 0; next = made 4 2 (stretch 0 0 (record { sure = 1; possible = 3 }) ∷ stretch 1 5 (record { sure = 0; possible = 2 }) ∷ []) noPair })
+    × (after board-table (startOf board-table 4) (gap ∷ letter 1 ∷ []) ≡ record {
+      number = 0;
+      next = made 4 2
+          (stretch 0 0 (record { sure = 1; possible = 3 }) ∷ stretch 1 5 (record { sure = 0; possible = 2 }) ∷ []) noPair;
+    })
     -- with room 1 entry 3 is refused, and the record is that of entry 2
     × (after board-table (startOf board-table 1) (letter 0 ∷ span 5 ∷ letter 1 ∷ [])
     ≡ record { number = 11; next = after board-table (startOf board-table 1) (letter 0 ∷ span 5 ∷ []) .next })
     -- no span between two letters: both act at age 0, where waiting is held already
-    × (after board-table (startOf board-table 4) (letter 0 ∷ letter 0 ∷ []) ≡ after board-table (startOf board-table 4) (letter 0 ∷ []))
-unfolding after call startFault recordFault letterFault spanFault startOf letterOf spanOf gapOf verdictOf settledOf countOf inside pairIn pairsAt recordOf pairOkb heldb followsb blankb placeOkb properb touches push newest startPairs gapPairs stepPairs verdictAt settledAt badCounts badLength badMasks badParts badAges lineFault tableFault image freshAt letterAt spanAt stepAt acceptsAt tableOf horizon acceptingAt headOf lineAt hasb union most all firstOf
+    × (after board-table (startOf board-table 4) (letter 0 ∷ letter 0 ∷ [])
+    ≡ after board-table (startOf board-table 4) (letter 0 ∷ []))
+unfolding after call startFault recordFault letterFault spanFault startOf letterOf spanOf gapOf verdictOf settledOf
+    countOf inside pairIn pairsAt recordOf pairOkb heldb followsb blankb placeOkb properb touches push newest
+    startPairs gapPairs stepPairs verdictAt settledAt badCounts badLength badMasks badParts badAges lineFault
+    tableFault image freshAt letterAt spanAt stepAt acceptsAt tableOf horizon acceptingAt headOf lineAt hasb union
+    most all firstOf
 the-records = (refl, refl, refl, refl, refl, refl, refl, refl)
 
 -- ---- edges
@@ -127,12 +146,18 @@ pub the-edges :
     × (gapOf (take 11 board-table) improper ≡ record { number = 1; next = improper })
     × (startOf (take 11 board-table) 65 ≡ record { number = 1; next = blankRecord })
     -- a refused question gives its number and nothing else
-    × ((verdictOf board-table improper ≡ refused 8) × (settledOf board-table improper ≡ refused 8) × (countOf board-table improper ≡ refused 8))
+    × ((verdictOf board-table improper ≡ refused 8)
+    × (settledOf board-table improper ≡ refused 8)
+    × (countOf board-table improper ≡ refused 8))
     -- a letter that no line bears, of 3 letters, is accepted: every configuration disappears, and waiting joins
     × (letterOf (set board-table 4 3) (made 4 1 (stretch 3 3 (both 2) ∷ []) (both 3)) 2 ≡ record { number = 0; next = started })
     -- the pair above H alone leaves it open, and unsure
-    × ((settledOf board-table (made 1 0 [] (record { sure = 0; possible = 2 })) ≡ told false) × (verdictOf board-table (made 1 0 [] (record { sure = 0; possible = 2 })) ≡ told unsure))
+    × ((settledOf board-table (made 1 0 [] (record { sure = 0; possible = 2 })) ≡ told false)
+    × (verdictOf board-table (made 1 0 [] (record { sure = 0; possible = 2 })) ≡ told unsure))
     -- a table with no accepting state answers no even after a gap
     × (verdictOf (set board-table 10 0) (gapOf board-table started .next) ≡ told says-no)
-unfolding startFault recordFault letterFault spanFault startOf letterOf spanOf gapOf verdictOf settledOf countOf inside pairIn pairsAt recordOf pairOkb heldb followsb blankb placeOkb properb touches push newest startPairs gapPairs stepPairs verdictAt settledAt badCounts badLength badMasks badParts badAges lineFault tableFault image freshAt letterAt spanAt stepAt acceptsAt tableOf horizon acceptingAt headOf lineAt hasb union most all firstOf
+unfolding startFault recordFault letterFault spanFault startOf letterOf spanOf gapOf verdictOf settledOf countOf
+    inside pairIn pairsAt recordOf pairOkb heldb followsb blankb placeOkb properb touches push newest startPairs
+    gapPairs stepPairs verdictAt settledAt badCounts badLength badMasks badParts badAges lineFault tableFault image
+    freshAt letterAt spanAt stepAt acceptsAt tableOf horizon acceptingAt headOf lineAt hasb union most all firstOf
 the-edges = (refl, refl, refl, refl, refl, refl, refl, refl, (refl, refl, refl), refl, (refl, refl), refl)

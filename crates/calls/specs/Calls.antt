@@ -7,11 +7,12 @@ use mathlib.Core.Bool.{Bool, _&&_, _||_, not}
 use lib.Dec.{eqb, leb, ltb}
 use lib.ListN.{length}
 use Rattle.base.specs.Checks.{_if_, _then_}
-use Rattle.meaning.specs.Tables.{Table, tableOf, horizon}
+use Rattle.meaning.specs.Tables.{tableOf, horizon}
 use Rattle.meaning.specs.Runs.{Symbol, letter, span}
 use Rattle.faults.specs.Faults.{tableFault}
 use Rattle.record.specs.declared.Record.{Record}
-use Rattle.record.specs.Pairs.{Pairs, startPairs, gapPairs, stepPairs, Verdict, verdictAt, settledAt}
+use Rattle.record.specs.Pairs.{Pairs, startPairs, gapPairs, stepPairs}
+use Rattle.record.specs.Verdicts.{Verdict, verdictAt, settledAt}
 use Rattle.record.specs.Stretches.{stretchesOf}
 use Rattle.record.specs.Records.{blankRecord, pairsAt, recordOf, properb}
 use Rattle.calls.specs.declared.Answer.{Answer}
@@ -46,7 +47,10 @@ stepped b r x = stepPairs (tableOf b) x (pairsOf b r)
 
 -- 1 to 8, then 9: "letter m or above", and 11: "the count after the letter would exceed the room"
 unfoldable pub letterFault : List ℕ → Record → ℕ → ℕ
-letterFault b r a = recordFault b r then 9 if leb (tableOf b .letters) a then 11 if ltb (r .room) (needed b (stepped b r (letter a)))
+letterFault b r a =
+    recordFault b r
+    then 9 if leb (tableOf b .letters) a
+    then 11 if ltb (r .room) (needed b (stepped b r (letter a)))
 
 -- 1 to 8, then 10: "span 0 or above 2,147,483,647"
 unfoldable pub spanFault : List ℕ → Record → ℕ → ℕ

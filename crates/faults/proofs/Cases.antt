@@ -22,7 +22,8 @@ four-bytes a = two-bytes (a / 65536) ++ two-bytes (a % 65536)
 -- the head of a table of n states, m letters and e lines, with its three masks; the length fits
 abbrev pub head : ℕ → ℕ → ℕ → ℕ → ℕ → ℕ → List ℕ
 head n m initial standing accepting e =
-    (1 ∷ []) ++ two-bytes (12 + 12 * e) ++ (n ∷ m ∷ []) ++ two-bytes initial ++ two-bytes standing ++ two-bytes accepting ++ (e ∷ [])
+    (1 ∷ []) ++ two-bytes (12 + 12 * e) ++ (n ∷ m ∷ [])
+    ++ two-bytes initial ++ two-bytes standing ++ two-bytes accepting ++ (e ∷ [])
 
 -- n states, m letters, empty masks and e lines of 12 zeros: each from state 0 to state 0 on letter 0, kept, at age 0
 abbrev pub plain : ℕ → ℕ → ℕ → List ℕ
@@ -97,13 +98,15 @@ unfolding tableFault badCounts badLength badMasks badParts badAges lineFault fir
 mask-full-edges = refl
 
 -- 6: each part at its greatest; then from 16, letter 32, to 16 and flags 2, one at a time
-pub part-edges : map tableFault (parted 15 31 15 1 ∷ parted 16 31 15 1 ∷ parted 15 32 15 1 ∷ parted 15 31 16 1 ∷ parted 15 31 15 2 ∷ [])
+pub part-edges : map tableFault (parted 15 31 15 1
+    ∷ parted 16 31 15 1 ∷ parted 15 32 15 1 ∷ parted 15 31 16 1 ∷ parted 15 31 15 2 ∷ [])
     ≡ 0 ∷ 6 ∷ 6 ∷ 6 ∷ 6 ∷ []
 unfolding tableFault badCounts badLength badMasks badParts badAges lineFault firstOf headOf lineAt
 part-edges = refl
 
 -- 7: L = 31,622,400 with U the same and with no upper bound; L one above, likewise
-pub least-edges : map tableFault (aged 31622400 31622400 ∷ aged 31622400 4294967295 ∷ aged 31622401 31622401 ∷ aged 31622401 4294967295 ∷ [])
+pub least-edges : map tableFault (aged 31622400 31622400 ∷ aged 31622400 4294967295
+    ∷ aged 31622401 31622401 ∷ aged 31622401 4294967295 ∷ [])
     ≡ 0 ∷ 0 ∷ 7 ∷ 7 ∷ []
 unfolding tableFault badCounts badLength badMasks badParts badAges lineFault firstOf headOf lineAt
 least-edges = refl
@@ -124,7 +127,8 @@ age-order-edges = refl
 
 -- version 2 and 17 states; 17 states and a wrong length; a wrong length and bit 2 in a mask; bit 2 in a mask and a line from
 -- state 2; a line from state 2 with U below L
-pub checks-in-order : map tableFault (set (set board-table 0 2) 3 17 ∷ set (set board-table 3 17) 2 37 ∷ set (set board-table 2 37) 6 4
+pub checks-in-order : map tableFault (set (set board-table 0 2) 3 17
+    ∷ set (set board-table 3 17) 2 37 ∷ set (set board-table 2 37) 6 4
     ∷ set (set board-table 6 4) 12 2 ∷ set (aged 5 4) 12 2 ∷ [])
     ≡ 2 ∷ 3 ∷ 4 ∷ 5 ∷ 6 ∷ []
 unfolding tableFault badCounts badLength badMasks badParts badAges lineFault firstOf headOf lineAt

@@ -36,7 +36,8 @@ bounded : (u : ℕ) → Fails (ltb longestAge u && not (eqb u noBound)) ((u ≡ 
 bounded u = record { iff = (to (ℕ-discrete u noBound), from) }
   where
     past : Is (ltb longestAge u && not (eqb u noBound)) ↔ ((longestAge < u) × ¬ (u ≡ noBound))
-    past = and-iff (ltb longestAge u) (not (eqb u noBound)) (ltb-iff longestAge u) (Iff·trans (not-iff (eqb u noBound)) (Iff·not (eqb-iff u noBound)))
+    past = and-iff (ltb longestAge u) (not (eqb u noBound)) (ltb-iff longestAge u)
+        (Iff·trans (not-iff (eqb u noBound)) (Iff·not (eqb-iff u noBound)))
 
     to : Dec (u ≡ noBound) → ¬ Is (ltb longestAge u && not (eqb u noBound)) → (u ≡ noBound) ⊎ (u ≤ longestAge)
     to (yes e) h = inl e
@@ -51,7 +52,8 @@ bounded u = record { iff = (to (ℕ-discrete u noBound), from) }
 line-passes : (h : Head) (l : Line) → Passes (lineFault h l) (SoundLine h l)
 unfolding lineFault badParts badAges
 line-passes h l =
-    let parts = below (h .states) (l .from) or below (h .states) (l .to) or below (h .letters) (l .letter) or at-most 1 (l .flags) in
+    let ends = below (h .states) (l .from) or below (h .states) (l .to) in
+    let parts = ends or below (h .letters) (l .letter) or at-most 1 (l .flags) in
     let ages = at-most longestAge (l .least) or bounded (l .greatest) or at-most (l .greatest) (l .least) in
     let checks = check 5 parts and-then check 6 ages in
     record { iff = Iff·trans (checks .iff) ((λ e. search), λ s. search) }
@@ -63,11 +65,13 @@ sound-iff b =
     let h = headOf b in
     let short = at-most (length b) 12 in
     let version = equal (h .version) 1 in
-    let counts = not-zero (h .states) or at-most 16 (h .states) or not-zero (h .letters) or at-most 32 (h .letters) or at-most 64 (h .lines) in
+    let states = not-zero (h .states) or at-most 16 (h .states) in
+    let counts = states or not-zero (h .letters) or at-most 32 (h .letters) or at-most 64 (h .lines) in
     let lengths = equal (h .length) (12 + 12 * h .lines) or equal (h .length) (length b) in
     let masks = within (h .states) (h .initial) or within (h .states) (h .standing) or within (h .states) (h .accepting) in
     let lines = each (h .lines) (λ k. line-passes h (lineAt b k)) in
-    let checks = check 0 short and-then check 1 version and-then check 2 counts and-then check 3 lengths and-then check 4 masks and-then lines in
+    let behind = check 3 lengths and-then check 4 masks and-then lines in
+    let checks = check 0 short and-then check 1 version and-then check 2 counts and-then behind in
     Iff·trans (checks .iff) ((λ e. search), λ s. search)
 
 -- ---- what a caller gets of a sound table
@@ -82,7 +86,8 @@ lineTop-le h l s = go (s .top)
 -- "the largest L or finite U in any line" is no more than the longest age
 pub sound-horizon : (b : List ℕ) → Sound b → horizon (tableOf b) ≤ longestAge
 unfolding horizon tableOf
-sound-horizon b s = most-le (headOf b .lines) (λ k. lineTop (lineAt b k)) longestAge (λ k l. lineTop-le (headOf b) (lineAt b k) (s .line k l))
+sound-horizon b s = most-le (headOf b .lines) (λ k. lineTop (lineAt b k)) longestAge
+    (λ k l. lineTop-le (headOf b) (lineAt b k) (s .line k l))
 
 -- the bytes of line k, up to its last, are there
 pub sound-line-there : (b : List ℕ) → Sound b → (k : ℕ) → k < headOf b .lines → 24 + 12 * k ≤ length b

@@ -18,7 +18,10 @@ longestAge = 31622400
 
 -- 3: "n, m or e outside its range", which is 1 to 16, 1 to 32 and 0 to 64
 unfoldable pub badCounts : Head → Bool
-badCounts h = eqb (h .states) 0 || ltb 16 (h .states) || eqb (h .letters) 0 || ltb 32 (h .letters) || ltb 64 (h .lines)
+badCounts h =
+    eqb (h .states) 0 || ltb 16 (h .states)
+    || eqb (h .letters) 0 || ltb 32 (h .letters)
+    || ltb 64 (h .lines)
 
 -- 4: "stated length not 12 + 12e, or not the slice's length"
 unfoldable pub badLength : Head → ℕ → Bool
@@ -30,15 +33,24 @@ pastStates n mask = not (eqb (mask / 2 ^ n) 0)
 
 -- 5: "a mask has a bit for state n or above"
 unfoldable pub badMasks : Head → Bool
-badMasks h = pastStates (h .states) (h .initial) || pastStates (h .states) (h .standing) || pastStates (h .states) (h .accepting)
+badMasks h =
+    pastStates (h .states) (h .initial)
+    || pastStates (h .states) (h .standing)
+    || pastStates (h .states) (h .accepting)
 
 -- 6: "a line's from or to is n or above, letter m or above, or flags above 1"
 unfoldable pub badParts : Head → Line → Bool
-badParts h l = leb (h .states) (l .from) || leb (h .states) (l .to) || leb (h .letters) (l .letter) || ltb 1 (l .flags)
+badParts h l =
+    leb (h .states) (l .from) || leb (h .states) (l .to)
+    || leb (h .letters) (l .letter)
+    || ltb 1 (l .flags)
 
 -- 7: "L above 31,622,400; U above that and not the none value; U below L"
 unfoldable pub badAges : Line → Bool
-badAges l = ltb longestAge (l .least) || (ltb longestAge (l .greatest) && not (eqb (l .greatest) noBound)) || ltb (l .greatest) (l .least)
+badAges l =
+    ltb longestAge (l .least)
+    || (ltb longestAge (l .greatest) && not (eqb (l .greatest) noBound))
+    || ltb (l .greatest) (l .least)
 
 unfoldable pub lineFault : Head → Line → ℕ
 lineFault h l = 6 if badParts h l then 7 if badAges l

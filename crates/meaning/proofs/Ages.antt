@@ -2,11 +2,10 @@
 -- of configurations exactly, after every symbol (`step-stands`, `after-stands`), from a start (`initial-stands`) and from a gap
 -- (`nothing-stands`, `everything-stands`); they accept exactly if the set does (`accepts-stands`), and two of them are the same
 -- exactly if their sets are, ages above H taken as one (`settled-stands`). Assumes nothing.
-use Prim.Native.Nat.{ℕ, zero, suc, _+_, _-_, _^_, _≤_, _<_, max}
+use Prim.Native.Nat.{ℕ, suc, _+_, _-_, _^_, _≤_, _<_, max}
 use mathlib.Core.Path.{_≡_, refl, sym, ap, _∙_, subst}
 use mathlib.Core.Logic.{_↔_, _⊎_, inl, inr, ⊎-elim, Iff·trans, Iff·symm}
 use mathlib.Core.Bool.{Bool, true, false, _&&_, _||_, cond, not, Bool·beq}
-use native.Mathlib.Nat.{le-refl}
 use native.Mathlib.Decide.{ℕ-discrete, decLe}
 use native.Mathlib.Omega.{arith}
 use lib.Bits.{bitOr, bitAnd}
@@ -15,9 +14,9 @@ use Rattle.base.specs.Masks.{Has, hasb, pick, union, most}
 use Rattle.base.proofs.Tests.{eqb-iff, leb-iff, ltb-iff, beq-iff, not-iff, and-iff, or-iff, is-true, is-false}
 use Rattle.base.proofs.Masks.{has-or, has-and, has-bit, has-full, has-pick, has-cond, has-union, not-has-zero, ext-has, nonempty, hasb-iff, le-most}
 use Rattle.table.specs.declared.Line.{Line}
-use Rattle.meaning.specs.Tables.{Table, noBound, Meets, resets, ageAfter, lineTop, horizon, acceptingAt}
+use Rattle.meaning.specs.Tables.{Table, noBound, Meets, resets, lineTop, horizon, acceptingAt}
 use Rattle.meaning.specs.Runs.{Symbol, letter, span, Word, empty, _▷_, Follows, Step}
-use Rattle.meaning.specs.Sets.{Confs, Taken, step, after, Accepts, Initial, Nothing, Everything, Beyond, Same}
+use Rattle.meaning.specs.Sets.{Confs, step, after, Accepts, Initial, Nothing, Everything, Beyond, Same}
 use Rattle.meaning.specs.Ages.{clip, Clipped, StandsFor, meetsb, takes, image, freshAt, letterAt, spanAt, stepAt, afterAt, initialAt, nothingAt, everythingAt, acceptsAt}
 
 -- ---- "All ages above H meet the same conditions."
@@ -28,36 +27,54 @@ Bounded H l = (l .least ≤ H) × ((l .greatest ≡ noBound) ⊎ (l .greatest �
 
 pub horizon-bounds : (T : Table) (i : ℕ) → i < T .lines → Bounded (horizon T) (T .line i)
 unfolding horizon
-horizon-bounds T i l = (omega (arith, top), go (ℕ-discrete (T .line i .greatest) noBound))
+horizon-bounds T i l = (omega (arith, top), go (ℕ-discrete greatest noBound))
   where
-    top : lineTop (T .line i) ≤ most (T .lines) (λ k. lineTop (T .line k))
+    least : ℕ
+    least = T .line i .least
+
+    greatest : ℕ
+    greatest = T .line i .greatest
+
+    H : ℕ
+    H = most (T .lines) (λ k. lineTop (T .line k))
+
+    top : max least (cond (eqb greatest noBound) 0 greatest) ≤ H
     top = le-most (T .lines) (λ k. lineTop (T .line k)) i l
 
-    go : Dec (T .line i .greatest ≡ noBound) → (T .line i .greatest ≡ noBound) ⊎ (T .line i .greatest ≤ most (T .lines) (λ k. lineTop (T .line k)))
+    bound : ¬ (greatest ≡ noBound) → eqb greatest noBound ≡ false
+    bound d = is-false (eqb greatest noBound) (λ t. d (eqb-iff greatest noBound .0 t))
+
+    go : Dec (greatest ≡ noBound) → (greatest ≡ noBound) ⊎ (greatest ≤ H)
     go (yes e) = inl e
-    go (no d) = inr (let z : max (T .line i .least) (T .line i .greatest) ≤ most (T .lines) (λ k. lineTop (T .line k)) = subst
-        (λ (b : Bool). max (T .line i .least) (cond b 0 (T .line i .greatest)) ≤ most (T .lines) (λ k. lineTop (T .line k)))
-        (is-false (eqb (T .line i .greatest) noBound) (λ t. d (eqb-iff (T .line i .greatest) noBound .0 t))) top in
-        omega arith)
+    go (no d) = inr (omega (arith, rw (bound d) at top))
 
 -- two ages that are one, where those above H are taken as one, meet the same conditions
 meets-alike : (H : ℕ) (l : Line) → Bounded H l → (t u : ℕ) → clip H t ≡ clip H u → Meets l t → Meets l u
 meets-alike H l b t u e (least, greatest) = (omega (arith, b .0), upper (b .1) greatest)
   where
-    upper : (l .greatest ≡ noBound) ⊎ (l .greatest ≤ H) → (l .greatest ≡ noBound) ⊎ (t ≤ l .greatest) → (l .greatest ≡ noBound) ⊎ (u ≤ l .greatest)
+    upper : (l .greatest ≡ noBound) ⊎ (l .greatest ≤ H)
+        → (l .greatest ≡ noBound) ⊎ (t ≤ l .greatest) → (l .greatest ≡ noBound) ⊎ (u ≤ l .greatest)
     upper (inl n) g = inl n
     upper (inr c) (inl n) = inl n
     upper (inr c) (inr g) = inr (omega arith)
 
-pub meets-above : (T : Table) (i : ℕ) → i < T .lines → (t u : ℕ) → horizon T < t → horizon T < u → Meets (T .line i) t ↔ Meets (T .line i) u
-meets-above T i l t u a b =
-    (meets-alike (horizon T) (T .line i) (horizon-bounds T i l) t u (omega arith), meets-alike (horizon T) (T .line i) (horizon-bounds T i l) u t (omega arith))
+pub meets-above : (T : Table) (i : ℕ) → i < T .lines → (t u : ℕ) → horizon T < t → horizon T < u
+    → Meets (T .line i) t ↔ Meets (T .line i) u
+meets-above T i l t u a b = (alike t u (omega arith), alike u t (omega arith))
+  where
+    alike : (t u : ℕ) → clip (horizon T) t ≡ clip (horizon T) u → Meets (T .line i) t → Meets (T .line i) u
+    alike = meets-alike (horizon T) (T .line i) (horizon-bounds T i l)
 
 -- ---- where a letter leads from a mask
 
 pub meets-iff : (l : Line) (t : ℕ) → Is (meetsb l t) ↔ Meets l t
-meets-iff l t = and-iff (leb (l .least) t) (eqb (l .greatest) noBound || leb t (l .greatest)) (leb-iff (l .least) t)
-    (or-iff (eqb (l .greatest) noBound) (leb t (l .greatest)) (eqb-iff (l .greatest) noBound) (leb-iff t (l .greatest)))
+meets-iff l t = and-iff (leb (l .least) t) (eqb u noBound || leb t u) (leb-iff (l .least) t) upper
+  where
+    u : ℕ
+    u = l .greatest
+
+    upper : Is (eqb u noBound || leb t u) ↔ ((u ≡ noBound) ⊎ (t ≤ u))
+    upper = or-iff (eqb u noBound) (leb t u) (eqb-iff u noBound) (leb-iff t u)
 
 -- a line with the letter a, that resets the clock or not, leads from a state of m at age t to q
 pub record Led (T : Table) (r : Bool) (a t m q : ℕ) : Type 0 where
@@ -69,12 +86,21 @@ pub record Led (T : Table) (r : Bool) (a t m q : ℕ) : Type 0 where
   pub held : Has m (T .line index .from)
   pub enters : T .line index .to ≡ q
 
-takes-iff : (l : Line) (r : Bool) (a t m : ℕ) → Is (takes l r a t m) ↔ ((((resets l ≡ r) × (l .letter ≡ a)) × Meets l t) × Has m (l .from))
-takes-iff l r a t m =
-    and-iff (Bool·beq (resets l) r && eqb (l .letter) a && meetsb l t) (hasb m (l .from))
-    (and-iff (Bool·beq (resets l) r && eqb (l .letter) a) (meetsb l t)
-    (and-iff (Bool·beq (resets l) r) (eqb (l .letter) a) (beq-iff (resets l) r) (eqb-iff (l .letter) a)) (meets-iff l t))
-    (hasb-iff m (l .from))
+takes-iff : (l : Line) (r : Bool) (a t m : ℕ)
+    → Is (takes l r a t m) ↔ ((((resets l ≡ r) × (l .letter ≡ a)) × Meets l t) × Has m (l .from))
+takes-iff l r a t m = and-iff (kind && bears && meetsb l t) (hasb m (l .from)) met (hasb-iff m (l .from))
+  where
+    kind : Bool
+    kind = Bool·beq (resets l) r
+
+    bears : Bool
+    bears = eqb (l .letter) a
+
+    borne : Is (kind && bears) ↔ ((resets l ≡ r) × (l .letter ≡ a))
+    borne = and-iff kind bears (beq-iff (resets l) r) (eqb-iff (l .letter) a)
+
+    met : Is (kind && bears && meetsb l t) ↔ (((resets l ≡ r) × (l .letter ≡ a)) × Meets l t)
+    met = and-iff (kind && bears) (meetsb l t) borne (meets-iff l t)
 
 pub has-image : (T : Table) (r : Bool) (a t m q : ℕ) → Has (image T r a t m) q ↔ Led T r a t m q
 unfolding image
@@ -88,7 +114,15 @@ has-image T r a t m q = (to, from)
         let l : Line = T .line (u .0) in
         let p = has-pick (takes l r a t m) (2 ^ (l .to)) q .0 (u .2) in
         let k = takes-iff l r a t m .0 (p .0) in
-        record { index = u .0; listed = u .1; kind = k .0 .0 .0; bears = k .0 .0 .1; meets = k .0 .1; held = k .1; enters = sym (has-bit (l .to) q .0 (p .1)) }
+        record {
+          index = u .0;
+          listed = u .1;
+          kind = k .0 .0 .0;
+          bears = k .0 .0 .1;
+          meets = k .0 .1;
+          held = k .1;
+          enters = sym (has-bit (l .to) q .0 (p .1));
+        }
 
     from : Led T r a t m q → Has (union (T .lines) by) q
     from h = let l : Line = T .line (h .index) in
@@ -106,25 +140,28 @@ module _ (T : Table) (a : ℕ) (f : ℕ → ℕ) (S : Confs) (stands : StandsFor
   H = horizon T
 
   -- a step from a state of the mask at age u, by a true age that is u where those above H are taken as one
-  led-step : (r : Bool) (u q : ℕ) → u ≤ suc H → Led T r a u (f u) q → (p : ℕ) × (t : ℕ) × (clip H t ≡ u) × S p t × Follows T a p t q (cond r 0 t)
-  led-step r u q l d = let c = stands (T .line (d .index) .from) u l .0 (d .held) in (
-    T .line (d .index) .from,
-    c .0,
-    c .1,
-    c .2,
-    record {
-      index = d .index;
-      listed = d .listed;
-      bears = d .bears;
-      leaves = refl;
-      enters = d .enters;
-      meets = meets-alike H (T .line (d .index)) (horizon-bounds T (d .index) (d .listed)) u (c .0) (omega (arith, c .1)) (d .meets);
-      aged = ap (λ (b : Bool). cond b 0 (c .0)) (d .kind);
-    },
-  )
+  led-step : (r : Bool) (u q : ℕ) → u ≤ suc H → Led T r a u (f u) q
+      → (p : ℕ) × (t : ℕ) × (clip H t ≡ u) × S p t × Follows T a p t q (cond r 0 t)
+  led-step r u q l d = let m : Line = T .line (d .index) in
+      let c = stands (m .from) u l .0 (d .held) in (
+        m .from,
+        c .0,
+        c .1,
+        c .2,
+        record {
+          index = d .index;
+          listed = d .listed;
+          bears = d .bears;
+          leaves = refl;
+          enters = d .enters;
+          meets = meets-alike H m (horizon-bounds T (d .index) (d .listed)) u (c .0) (omega (arith, c .1)) (d .meets);
+          aged = ap (λ (b : Bool). cond b 0 (c .0)) (d .kind);
+        },
+      )
 
   -- and back: a step from S at the age t is one from the mask at that age
-  step-led : (r : Bool) (p t q u : ℕ) → S p t → (s : Follows T a p t q u) → resets (T .line (s .index)) ≡ r → Led T r a (clip H t) (f (clip H t)) q
+  step-led : (r : Bool) (p t q u : ℕ) → S p t → (s : Follows T a p t q u) → resets (T .line (s .index)) ≡ r
+      → Led T r a (clip H t) (f (clip H t)) q
   step-led r p t q u h s e = record {
     index = s .index;
     listed = s .listed;
@@ -132,7 +169,8 @@ module _ (T : Table) (a : ℕ) (f : ℕ → ℕ) (S : Confs) (stands : StandsFor
     bears = s .bears;
     enters = s .enters;
     meets = meets-alike H (T .line (s .index)) (horizon-bounds T (s .index) (s .listed)) t (clip H t) (omega arith) (s .meets);
-    held = stands (T .line (s .index) .from) (clip H t) (omega arith) .1 (t, refl, subst (λ (p : ℕ). S p t) (sym (s .leaves)) h);
+    held = stands (T .line (s .index) .from) (clip H t) (omega arith) .1
+        (t, refl, subst (λ (p : ℕ). S p t) (sym (s .leaves)) h);
   }
 
   abbrev resetAt : ℕ → ℕ
@@ -148,16 +186,24 @@ module _ (T : Table) (a : ℕ) (f : ℕ → ℕ) (S : Confs) (stands : StandsFor
       kept : ℕ
       kept = image T false a k (f k)
 
-      fresh : ℕ
-      fresh = bitOr (union (suc (suc H)) resetAt) (T .standing)
+      reset : ℕ
+      reset = union (suc (suc H)) resetAt
 
-      to : Has (bitOr kept (pick (eqb k 0) fresh)) q → Now
+      fresh : ℕ
+      fresh = bitOr reset (T .standing)
+
+      -- the mask at age k
+      mask : ℕ
+      mask = bitOr kept (pick (eqb k 0) fresh)
+
+      to : Has mask q → Now
       to h = ⊎-elim by-keeping at-zero (has-or kept (pick (eqb k 0) fresh) q .0 h)
         where
           by-keeping : Has kept q → Now
-          by-keeping j = let s = led-step false k q l (has-image T false a k (f k) q .0 j) in (s .1, s .2, inl (s .0, s .1, s .3, s .4))
+          by-keeping j = let s = led-step false k q l (has-image T false a k (f k) q .0 j) in
+              (s .1, s .2, inl (s .0, s .1, s .3, s .4))
 
-          by-reset : k ≡ 0 → Has (union (suc (suc H)) resetAt) q → Now
+          by-reset : k ≡ 0 → Has reset q → Now
           by-reset z j = let u = has-union (suc (suc H)) resetAt q .0 j in
               let s = led-step true (u .0) q (omega (arith, u .1)) (has-image T true a (u .0) (f (u .0)) q .0 (u .2)) in
               (0, omega arith, inl (s .0, s .1, s .3, s .4))
@@ -165,26 +211,35 @@ module _ (T : Table) (a : ℕ) (f : ℕ → ℕ) (S : Confs) (stands : StandsFor
           at-zero : Has (pick (eqb k 0) fresh) q → Now
           at-zero j = let p = has-pick (eqb k 0) fresh q .0 j in
               let z : k ≡ 0 = eqb-iff k 0 .0 (p .0) in
-              ⊎-elim (by-reset z) (λ s. (0, omega arith, inr (refl, s))) (has-or (union (suc (suc H)) resetAt) (T .standing) q .0 (p .1))
+              ⊎-elim (by-reset z) (λ s. (0, omega arith, inr (refl, s))) (has-or reset (T .standing) q .0 (p .1))
 
-      new : k ≡ 0 → Has fresh q → Has (bitOr kept (pick (eqb k 0) fresh)) q
-      new z h = has-or kept (pick (eqb k 0) fresh) q .1 (inr (has-pick (eqb k 0) fresh q .1 (eqb-iff k 0 .1 z, h)))
+      old : Has kept q → Has mask q
+      old h = has-or kept (pick (eqb k 0) fresh) q .1 (inl h)
 
-      from : Now → Has (bitOr kept (pick (eqb k 0) fresh)) q
-      from (t, e, inr h) = new (omega arith) (has-or (union (suc (suc H)) resetAt) (T .standing) q .1 (inr (h .1)))
+      new : k ≡ 0 → Has reset q ⊎ Has (T .standing) q → Has mask q
+      new z h = has-or kept (pick (eqb k 0) fresh) q .1
+          (inr (has-pick (eqb k 0) fresh q .1 (eqb-iff k 0 .1 z, has-or reset (T .standing) q .1 h)))
+
+      from : Now → Has mask q
+      from (t, e, inr h) = new (omega arith) (inr (h .1))
       from (t, e, inl (p, u, h, s)) = by (resets (T .line (s .index))) refl
         where
-          by : (r : Bool) → resets (T .line (s .index)) ≡ r → Has (bitOr kept (pick (eqb k 0) fresh)) q
+          v : ℕ
+          v = clip H u
+
+          led : (r : Bool) → resets (T .line (s .index)) ≡ r → Has (image T r a v (f v)) q
+          led r d = has-image T r a v (f v) q .1 (step-led r p u q t h s d)
+
+          by : (r : Bool) → resets (T .line (s .index)) ≡ r → Has mask q
           by true r = let z : 0 ≡ t = ap (λ (b : Bool). cond b 0 u) (sym r) ∙ s .aged in
-              new (omega arith) (has-or (union (suc (suc H)) resetAt) (T .standing) q .1 (inl (has-union (suc (suc H)) resetAt q .1
-              (clip H u, omega arith, has-image T true a (clip H u) (f (clip H u)) q .1 (step-led true p u q t h s r)))))
+              new (omega arith) (inl (has-union (suc (suc H)) resetAt q .1 (v, omega arith, led true r)))
           by false r = let z : u ≡ t = ap (λ (b : Bool). cond b 0 u) (sym r) ∙ s .aged in
-              has-or kept (pick (eqb k 0) fresh) q .1 (inl (subst (λ (x : ℕ). Has (image T false a x (f x)) q) (ap (clip H) z ∙ e)
-              (has-image T false a (clip H u) (f (clip H u)) q .1 (step-led false p u q t h s r))))
+              old (subst (λ (x : ℕ). Has (image T false a x (f x)) q) (ap (clip H) z ∙ e) (led false r))
 
 -- ---- a span
 
-pub span-stands : (T : Table) (H s : ℕ) (f : ℕ → ℕ) (S : Confs) → StandsFor H f S → StandsFor H (spanAt H s f) (step T (span s) S)
+pub span-stands : (T : Table) (H s : ℕ) (f : ℕ → ℕ) (S : Confs) → StandsFor H f S
+    → StandsFor H (spanAt H s f) (step T (span s) S)
 unfolding spanAt step Step
 span-stands T H s f S stands q k l = (to, from)
   where
@@ -197,12 +252,15 @@ span-stands T H s f S stands q k l = (to, from)
     gone : ℕ → ℕ
     gone u = pick (ltb H (u + s)) (f u)
 
+    high : ℕ
+    high = union (suc (suc H)) gone
+
     -- the age t of S has become t + s
     later : (t : ℕ) → clip H (t + s) ≡ k → S q t → Now
     later t e h = (t + s, e, (q, t, h, (refl, refl)))
 
-    to : Has (cond (leb k H) low (union (suc (suc H)) gone)) q → Now
-    to h = ⊎-elim within above (has-cond (leb k H) low (union (suc (suc H)) gone) q .0 h)
+    to : Has (cond (leb k H) low high) q → Now
+    to h = ⊎-elim within above (has-cond (leb k H) low high q .0 h)
       where
         within : Is (leb k H) × Has low q → Now
         within (b, j) = let p = has-pick (leb s k) (f (k - s)) q .0 j in
@@ -211,7 +269,7 @@ span-stands T H s f S stands q k l = (to, from)
             let d = stands q (k - s) (omega arith) .0 (p .1) in
             later (d .0) (omega (arith, d .1)) (d .2)
 
-        above : Is (not (leb k H)) × Has (union (suc (suc H)) gone) q → Now
+        above : Is (not (leb k H)) × Has high q → Now
         above (b, j) = let u = has-union (suc (suc H)) gone q .0 j in
             let p = has-pick (ltb H (u .0 + s)) (f (u .0)) q .0 (u .2) in
             let b′ : ¬ (k ≤ H) = λ z. not-iff (leb k H) .0 b (leb-iff k H .1 z) in
@@ -219,27 +277,39 @@ span-stands T H s f S stands q k l = (to, from)
             let d = stands q (u .0) (omega (arith, u .1)) .0 (p .1) in
             later (d .0) (omega (arith, d .1)) (d .2)
 
-    from : Now → Has (cond (leb k H) low (union (suc (suc H)) gone)) q
-    from (t, e, (p, u, h, (same, aged))) = has-cond (leb k H) low (union (suc (suc H)) gone) q .1 (go (decLe k H))
+    from : Now → Has (cond (leb k H) low high) q
+    from (t, e, (p, u, h, (same, aged))) = has-cond (leb k H) low high q .1 (go (decLe k H))
       where
-        held : Has (f (clip H u)) q
-        held = stands q (clip H u) (omega arith) .1 (u, refl, subst (λ (p : ℕ). S p u) same h)
+        v : ℕ
+        v = clip H u
 
-        go : Dec (k ≤ H) → (Is (leb k H) × Has low q) ⊎ (Is (not (leb k H)) × Has (union (suc (suc H)) gone) q)
-        go (yes b) = inl (leb-iff k H .1 b, has-pick (leb s k) (f (k - s)) q .1 (leb-iff s k .1 (omega arith), subst (λ (x : ℕ). Has (f x) q) (let z : clip H u ≡ k - s = omega arith in z) held))
+        held : Has (f v) q
+        held = stands q v (omega arith) .1 (u, refl, subst (λ (p : ℕ). S p u) same h)
+
+        moved : k ≤ H → Has low q
+        moved b = let z : v ≡ k - s = omega arith in
+            has-pick (leb s k) (f (k - s)) q .1 (leb-iff s k .1 (omega arith), subst (λ (x : ℕ). Has (f x) q) z held)
+
+        passed : ¬ (k ≤ H) → Has (gone v) q
+        passed b = has-pick (ltb H (v + s)) (f v) q .1 (ltb-iff H (v + s) .1 (omega arith), held)
+
+        go : Dec (k ≤ H) → (Is (leb k H) × Has low q) ⊎ (Is (not (leb k H)) × Has high q)
+        go (yes b) = inl (leb-iff k H .1 b, moved b)
         go (no b) = inr (
           not-iff (leb k H) .1 (λ z. b (leb-iff k H .0 z)),
-          has-union (suc (suc H)) gone q .1 (clip H u, omega arith, has-pick (ltb H (clip H u + s)) (f (clip H u)) q .1 (ltb-iff H (clip H u + s) .1 (omega arith), held)),
+          has-union (suc (suc H)) gone q .1 (v, omega arith, passed b),
         )
 
 -- ---- every symbol, and every word
 
-pub step-stands : (T : Table) (x : Symbol) (f : ℕ → ℕ) (S : Confs) → StandsFor (horizon T) f S → StandsFor (horizon T) (stepAt T x f) (step T x S)
+pub step-stands : (T : Table) (x : Symbol) (f : ℕ → ℕ) (S : Confs) → StandsFor (horizon T) f S
+    → StandsFor (horizon T) (stepAt T x f) (step T x S)
 unfolding stepAt
 step-stands T (letter a) f S stands = letter-stands T a f S stands
 step-stands T (span s) f S stands = span-stands T (horizon T) s f S stands
 
-pub after-stands : (T : Table) (f : ℕ → ℕ) (S : Confs) → StandsFor (horizon T) f S → (w : Word) → StandsFor (horizon T) (afterAt T f w) (after T S w)
+pub after-stands : (T : Table) (f : ℕ → ℕ) (S : Confs) → StandsFor (horizon T) f S
+    → (w : Word) → StandsFor (horizon T) (afterAt T f w) (after T S w)
 unfolding afterAt after
 after-stands T f S stands empty = stands
 after-stands T f S stands (w ▷ x) = step-stands T x (afterAt T f w) (after T S w) (after-stands T f S stands w)
@@ -248,7 +318,9 @@ after-stands T f S stands (w ▷ x) = step-stands T x (afterAt T f w) (after T S
 
 pub initial-stands : (T : Table) (H : ℕ) → StandsFor H (initialAt T) (Initial T)
 initial-stands T H q k l = (
-  (λ h. let p = has-pick (eqb k 0) (T .initial) q .0 h in let z : k ≡ 0 = eqb-iff k 0 .0 (p .0) in (0, omega arith, (refl, p .1))),
+  (λ h. let p = has-pick (eqb k 0) (T .initial) q .0 h in
+      let z : k ≡ 0 = eqb-iff k 0 .0 (p .0) in
+      (0, omega arith, (refl, p .1))),
   λ h. has-pick (eqb k 0) (T .initial) q .1 (eqb-iff k 0 .1 (omega (arith, h .1, h .2 .0)), h .2 .1),
 )
 
@@ -288,13 +360,19 @@ accepts-stands T f S stands = (to, from)
             (q, c .0, subst (λ (m : ℕ). Has m q) (ap (acceptingAt T) (sym (c .1)) ∙ accepting-clip T (c .0)) (p .1), c .2)
 
     from : Accepts T S → Is (not (eqb all 0))
-    from (q, t, a, h) = not-iff (eqb all 0) .1 (λ e. not-has-zero q (subst (λ (x : ℕ). Has x q) (eqb-iff all 0 .0 e)
-        (has-union (suc (suc H)) good q .1 (
-          clip H t,
-          omega arith,
-          has-and (f (clip H t)) (acceptingAt T (clip H t)) q .1
-              (stands q (clip H t) (omega arith) .1 (t, refl, h), subst (λ (m : ℕ). Has m q) (sym (accepting-clip T t)) a),
-        ))))
+    from (q, t, a, h) = not-iff (eqb all 0) .1 (λ e. not-has-zero q (subst (λ (x : ℕ). Has x q) (eqb-iff all 0 .0 e) one))
+      where
+        u : ℕ
+        u = clip H t
+
+        held : Has (f u) q
+        held = stands q u (omega arith) .1 (t, refl, h)
+
+        accepting : Has (acceptingAt T u) q
+        accepting = subst (λ (m : ℕ). Has m q) (sym (accepting-clip T t)) a
+
+        one : Has all q
+        one = has-union (suc (suc H)) good q .1 (u, omega arith, has-and (f u) (acceptingAt T u) q .1 (held, accepting))
 
 -- ---- the same set, ages above H taken as one
 
@@ -324,7 +402,8 @@ same-clipped H A B = (to, from)
     from e = let e′ : (q k : ℕ) → Clipped H B q k ↔ Clipped H A q k = λ q k. Iff·symm (e q k) in
         record { low = λ q t l. (low e q t l, low e′ q t l); beyond = λ q. (high e q, high e′ q) }
 
-pub settled-stands : (H : ℕ) (f g : ℕ → ℕ) (A B : Confs) → StandsFor H f A → StandsFor H g B → ((k : ℕ) → k ≤ suc H → f k ≡ g k) ↔ Same H A B
+pub settled-stands : (H : ℕ) (f g : ℕ → ℕ) (A B : Confs) → StandsFor H f A → StandsFor H g B
+    → ((k : ℕ) → k ≤ suc H → f k ≡ g k) ↔ Same H A B
 settled-stands H f g A B sa sb = (to, from)
   where
     to : ((k : ℕ) → k ≤ suc H → f k ≡ g k) → Same H A B
@@ -344,4 +423,7 @@ span-moved H s f k l m = rw (is-true (leb k H) (leb-iff k H .1 l), is-true (leb 
 
 pub span-gone : (H s : ℕ) (f : ℕ → ℕ) (k : ℕ) → k ≤ H → k < s → spanAt H s f k ≡ 0
 unfolding spanAt
-span-gone H s f k l m = rw (is-true (leb k H) (leb-iff k H .1 l), is-false (leb s k) (λ t. let z : s ≤ k = leb-iff s k .0 t in omega arith))
+span-gone H s f k l m = rw (is-true (leb k H) (leb-iff k H .1 l), is-false (leb s k) not-yet)
+  where
+    not-yet : ¬ Is (leb s k)
+    not-yet t = let z : s ≤ k = leb-iff s k .0 t in omega arith

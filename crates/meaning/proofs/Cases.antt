@@ -1,19 +1,18 @@
 -- The definitions on the table of document 01, One session, whole: its horizon, a run written out, words that are accepted and
 -- one that is not, and two readings that look right and come out different. Assumes nothing.
-use Prim.Native.Nat.{ℕ, zero, suc, _+_, _-_, _≤_, _<_}
+use Prim.Native.Nat.{ℕ}
 use mathlib.Core.Path.{_≡_, refl}
-use mathlib.Core.Logic.{_↔_, _⊎_, inl, inr, Iff·trans, Iff·symm}
-use mathlib.Core.List.{List, []}
-use mathlib.Core.Bool.{Bool, true, false, cond}
+use mathlib.Core.Logic.{_↔_, inl, inr, Iff·trans, Iff·symm}
+use mathlib.Core.List.{[]}
+use mathlib.Core.Bool.{true, false, cond}
 use native.Mathlib.Omega.{arith}
 use lib.Bits.{bitOr}
 use lib.Dec.{T as Is, eqb, leb}
-use lib.ListN.{take}
 use Rattle.base.specs.Masks.{Has, hasb, pick, union, most}
 use Rattle.table.specs.Table.{headOf, lineAt}
 use Rattle.table.proofs.Cases.{board-table}
 use Rattle.meaning.specs.Tables.{Table, tableOf, Meets, horizon, acceptingAt}
-use Rattle.meaning.specs.Runs.{Symbol, letter, span, Word, empty, _▷_, Follows, Step, Run, stays, goes, Begins, RunOver, Accepted}
+use Rattle.meaning.specs.Runs.{letter, span, Word, empty, _▷_, Follows, Step, Run, stays, goes, Begins, Accepted}
 use Rattle.meaning.specs.Ages.{image, freshAt, letterAt, spanAt, stepAt, afterAt, initialAt, nothingAt, acceptsAt}
 use Rattle.meaning.proofs.Runs.{accepted-iff}
 use Rattle.meaning.proofs.Ages.{after-stands, initial-stands, accepts-stands}
@@ -53,13 +52,29 @@ unfolding board tableOf headOf lineAt Step
 looked-run = goes (goes (goes stays refreshed) waited) look
   where
     refreshed : Follows board 0 0 0 1 0
-    refreshed = record { index = 0; listed = omega arith; bears = refl; leaves = refl; meets = (omega arith, inl refl); enters = refl; aged = refl }
+    refreshed = record {
+      index = 0;
+      listed = omega arith;
+      bears = refl;
+      leaves = refl;
+      meets = (omega arith, inl refl);
+      enters = refl;
+      aged = refl;
+    }
 
     waited : Step board (span 5) 1 0 1 5
     waited = (refl, refl)
 
     look : Follows board 1 1 5 1 5
-    look = record { index = 1; listed = omega arith; bears = refl; leaves = refl; meets = (omega arith, inr (omega arith)); enters = refl; aged = refl }
+    look = record {
+      index = 1;
+      listed = omega arith;
+      bears = refl;
+      leaves = refl;
+      meets = (omega arith, inr (omega arith));
+      enters = refl;
+      aged = refl;
+    }
 
 -- it begins at the start of the stream in state 0, which is initial, and ends in state 1, which accepts
 pub looked-accepted : Accepted board looked
@@ -68,7 +83,9 @@ looked-accepted = (1, 5, refl, record { before = empty; rest = looked; whole = r
 
 -- a word is accepted exactly if what its symbols make of the initial states accepts, which computes
 pub accepted-computes : (T : Table) (w : Word) → Is (acceptsAt T (afterAt T (initialAt T) w)) ↔ Accepted T w
-accepted-computes T w = Iff·trans (accepts-stands T (afterAt T (initialAt T) w) _ (after-stands T (initialAt T) _ (initial-stands T (horizon T)) w)) (Iff·symm (accepted-iff T w))
+accepted-computes T w = Iff·trans
+    (accepts-stands T (afterAt T (initialAt T) w) _ (after-stands T (initialAt T) _ (initial-stands T (horizon T)) w))
+    (Iff·symm (accepted-iff T w))
 
 -- a look after 6 seconds finds nothing fresh
 pub late-look-not-accepted : ¬ Accepted board (empty ▷ letter 0 ▷ span 6 ▷ letter 1)
@@ -87,8 +104,11 @@ unfoldable pub standingFirst : Table → ℕ → (ℕ → ℕ) → ℕ → ℕ
 standingFirst T a f = letterAt T (horizon T) a (λ k. bitOr (f k) (pick (eqb k 0) (T .standing)))
 
 -- after a gap nothing is sure, and one refreshed makes nothing sure but waiting; stepped first, it would make a false yes
-pub standing-after-the-letter : (acceptsAt board (stepAt board (letter 0) nothingAt) ≡ false) × (acceptsAt board (standingFirst board 0 nothingAt) ≡ true)
-unfolding standingFirst board tableOf headOf lineAt horizon most acceptingAt hasb union image freshAt letterAt spanAt stepAt acceptsAt
+pub standing-after-the-letter :
+    (acceptsAt board (stepAt board (letter 0) nothingAt) ≡ false)
+    × (acceptsAt board (standingFirst board 0 nothingAt) ≡ true)
+unfolding standingFirst board tableOf headOf lineAt horizon most acceptingAt hasb union image freshAt letterAt spanAt
+    stepAt acceptsAt
 standing-after-the-letter = (refl, refl)
 
 -- a configuration dropped when its age passes H: above H only what was there already
@@ -99,5 +119,6 @@ droppedAbove T s f k = cond (leb k (horizon T)) (spanAt (horizon T) s f k) (f k)
 pub kept-above-the-horizon :
     (acceptsAt board (stepAt board (span 6) (stepAt board (letter 0) (initialAt board))) ≡ true)
     × (acceptsAt board (droppedAbove board 6 (stepAt board (letter 0) (initialAt board))) ≡ false)
-unfolding droppedAbove board tableOf headOf lineAt horizon most acceptingAt hasb union image freshAt letterAt spanAt stepAt acceptsAt
+unfolding droppedAbove board tableOf headOf lineAt horizon most acceptingAt hasb union image freshAt letterAt spanAt
+    stepAt acceptsAt
 kept-above-the-horizon = (refl, refl)

@@ -1,14 +1,14 @@
 -- A configuration is in the set after w exactly if a run over w ends in it (`after-run`); so the word is accepted exactly if
 -- that set accepts (`accepted-iff`). With no standing state a run over w is 001's, from the start of the stream
 -- (`no-standing`). Assumes nothing.
-use Prim.Native.Nat.{ℕ, zero, suc}
+use Prim.Native.Nat.{ℕ}
 use mathlib.Core.Path.{_≡_, refl, sym, ap, _∙_, subst}
-use mathlib.Core.Logic.{_↔_, _⊎_, inl, inr}
+use mathlib.Core.Logic.{_↔_, inl, inr}
 use Rattle.base.specs.Masks.{Has}
 use Rattle.base.proofs.Masks.{not-has-zero}
-use Rattle.meaning.specs.Tables.{Table, acceptingAt}
+use Rattle.meaning.specs.Tables.{Table}
 use Rattle.meaning.specs.Runs.{Symbol, letter, span, Word, empty, _▷_, _⧺_, Step, Run, stays, goes, Begins, RunOver, Accepted}
-use Rattle.meaning.specs.Sets.{Confs, step, after, Initial, Accepts}
+use Rattle.meaning.specs.Sets.{step, after, Initial, Accepts}
 
 module _ (T : Table) where
   -- ---- from a run to the set
@@ -50,10 +50,16 @@ module _ (T : Table) where
   after-over (w ▷ span a) q t (p, u, h, s) = on (after-over w p u h) s
 
   pub after-run : (w : Word) (q t : ℕ) → after T (Initial T) w q t ↔ RunOver T w q t
-  after-run w q t = (after-over w q t, λ r. subst (λ (w : Word). after T (Initial T) w q t) (r .whole) (run-after (r .before) (r .first) (r .begins) (r .run)))
+  after-run w q t = (
+    after-over w q t,
+    λ r. subst (λ (w : Word). after T (Initial T) w q t) (r .whole) (run-after (r .before) (r .first) (r .begins) (r .run)),
+  )
 
   pub accepted-iff : (w : Word) → Accepted T w ↔ Accepts T (after T (Initial T) w)
-  accepted-iff w = ((λ h. (h .0, h .1, h .2, after-run w (h .0) (h .1) .1 (h .3))), λ h. (h .0, h .1, h .2, after-run w (h .0) (h .1) .0 (h .3)))
+  accepted-iff w = (
+    (λ h. (h .0, h .1, h .2, after-run w (h .0) (h .1) .1 (h .3))),
+    λ h. (h .0, h .1, h .2, after-run w (h .0) (h .1) .0 (h .3)),
+  )
 
   -- ---- "With no standing state this is 001's definition."
 
@@ -68,7 +74,8 @@ module _ (T : Table) where
     λ h. record { before = empty; rest = w; whole = empty-before w; first = h .0; begins = h .1; run = h .2 },
   )
     where
-      from-start : (u : Word) {v : Word} {p : ℕ} → Begins T u p → u ⧺ v ≡ w → Run T p 0 v q t → (p : ℕ) × Has (T .initial) p × Run T p 0 w q t
+      from-start : (u : Word) {v : Word} {p : ℕ} → Begins T u p → u ⧺ v ≡ w → Run T p 0 v q t
+          → (p : ℕ) × Has (T .initial) p × Run T p 0 w q t
       from-start empty {v} {p} b e r = (p, b, subst (λ (w : Word). Run T p 0 w q t) (sym (empty-before v) ∙ e) r)
       from-start (u ▷ letter a) {v} {p} b e r = absurd (not-has-zero p (subst (λ (m : ℕ). Has m p) none b))
       from-start (u ▷ span s) b e r = absurd b

@@ -1,10 +1,9 @@
 -- Symbols keep inclusion (`after-mono`), so that whatever set stood at a gap's end, the set after it lies between that of the
 -- empty set and that of all configurations (`after-between`). Hence what demand 3 asks of every set is asked of these two:
 -- `yes-iff`, `no-iff`, `settled-iff`. A set over the n states stays one (`step-over`). Assumes nothing.
-use Prim.Native.Nat.{ℕ, _^_, _≤_, _<_}
+use Prim.Native.Nat.{ℕ, _^_, _<_}
 use mathlib.Core.Path.{subst}
-use mathlib.Core.Logic.{_↔_, _⊎_, inl, inr, Iff·trans, Iff·symm}
-use Rattle.base.specs.Masks.{Has}
+use mathlib.Core.Logic.{_↔_, inl, inr, Iff·trans, Iff·symm}
 use Rattle.base.proofs.Masks.{has-below}
 use Rattle.meaning.specs.Tables.{Table}
 use Rattle.meaning.specs.Runs.{Symbol, letter, span, Word, empty, _▷_, Step}
@@ -39,15 +38,24 @@ module _ (T : Table) where
   -- ---- what is so of every set S that may have stood at a gap's end
 
   pub yes-iff : (w : Word) → ((S : Confs) → Over T S → Accepts T (after T S w)) ↔ Accepts T (after T Nothing w)
-  yes-iff w = ((λ h. h Nothing (nothing-within (Everything T))), λ h S o. accepts-mono (after T Nothing w) (after T S w) (after-between S o w .0) h)
+  yes-iff w = (
+    (λ h. h Nothing (nothing-within (Everything T))),
+    λ h S o. accepts-mono (after T Nothing w) (after T S w) (after-between S o w .0) h,
+  )
 
   pub no-iff : (w : Word) → ((S : Confs) → Over T S → ¬ Accepts T (after T S w)) ↔ (¬ Accepts T (after T (Everything T) w))
-  no-iff w = ((λ h. h (Everything T) (λ q t k. k)), λ h S o k. h (accepts-mono (after T S w) (after T (Everything T) w) (after-between S o w .1) k))
+  no-iff w = (
+    (λ h. h (Everything T) (λ q t k. k)),
+    λ h S o k. h (accepts-mono (after T S w) (after T (Everything T) w) (after-between S o w .1) k),
+  )
 
   pub settled-iff : (H : ℕ) (w : Word)
-      → ((R S : Confs) → Over T R → Over T S → Same H (after T R w) (after T S w)) ↔ Same H (after T Nothing w) (after T (Everything T) w)
-  settled-iff H w =
-      ((λ h. h Nothing (Everything T) (nothing-within (Everything T)) (λ q t k. k)), λ e R S r s. same-trans (same-sym (one e R r)) (one e S s))
+      → ((R S : Confs) → Over T R → Over T S → Same H (after T R w) (after T S w))
+      ↔ Same H (after T Nothing w) (after T (Everything T) w)
+  settled-iff H w = (
+    (λ h. h Nothing (Everything T) (nothing-within (Everything T)) (λ q t k. k)),
+    λ e R S r s. same-trans (same-sym (one e R r)) (one e S s),
+  )
     where
       beyond-mono : (A B : Confs) → Within A B → (q : ℕ) → Beyond H A q → Beyond H B q
       beyond-mono A B h q (t, l, k) = (t, l, h q t k)
@@ -63,10 +71,15 @@ module _ (T : Table) where
       same-sym s = record { low = λ q t l. Iff·symm (s .low q t l); beyond = λ q. Iff·symm (s .beyond q) }
 
       same-trans : {A B C : Confs} → Same H A B → Same H B C → Same H A C
-      same-trans s r = record { low = λ q t l. Iff·trans (s .low q t l) (r .low q t l); beyond = λ q. Iff·trans (s .beyond q) (r .beyond q) }
+      same-trans s r = record {
+        low = λ q t l. Iff·trans (s .low q t l) (r .low q t l);
+        beyond = λ q. Iff·trans (s .beyond q) (r .beyond q);
+      }
 
-      one : Same H (after T Nothing w) (after T (Everything T) w) → (S : Confs) → Over T S → Same H (after T Nothing w) (after T S w)
-      one e S o = between (after T Nothing w) (after T S w) (after T (Everything T) w) (after-between S o w .0) (after-between S o w .1) e
+      one : Same H (after T Nothing w) (after T (Everything T) w)
+          → (S : Confs) → Over T S → Same H (after T Nothing w) (after T S w)
+      one e S o = let b = after-between S o w in
+          between (after T Nothing w) (after T S w) (after T (Everything T) w) (b .0) (b .1) e
 
 -- ---- the n states
 

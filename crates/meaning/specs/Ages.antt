@@ -1,7 +1,7 @@
 -- A set of configurations held age by age: a mask of states for each age 0 to H, and one for all ages above H, kept at the
 -- age H + 1. What a symbol makes of such masks, and whether they accept: document 01's sets, as something that computes.
 -- Assumes nothing: these are definitions.
-use Prim.Native.Nat.{ℕ, zero, suc, _+_, _-_, _^_, _≤_, min}
+use Prim.Native.Nat.{ℕ, suc, _+_, _-_, _^_, _≤_, min}
 use mathlib.Core.Path.{_≡_}
 use mathlib.Core.Logic.{_↔_}
 use mathlib.Core.Bool.{Bool, true, false, _&&_, _||_, cond, not, Bool·beq}

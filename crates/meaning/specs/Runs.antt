@@ -1,7 +1,7 @@
 -- Words and runs as document 001, section 2, defines them, for one clock and whole seconds, with the standing starts of
 -- document 01. A configuration is a state and an age, written here as two numbers side by side. Assumes nothing: these are
 -- definitions.
-use Prim.Native.Nat.{ℕ, zero, suc, _+_, _<_}
+use Prim.Native.Nat.{ℕ, _+_, _<_}
 use mathlib.Core.Path.{_≡_}
 use Rattle.base.specs.Masks.{Has}
 use Rattle.meaning.specs.Tables.{Table, Meets, ageAfter, acceptingAt}

@@ -1,9 +1,9 @@
 -- The definitions on small inputs, by computation: the stretches of some pairs, the record that holds them, and both sides of
 -- each clause of a proper record. Assumes nothing.
-use Prim.Native.Nat.{ℕ, zero, suc, _-_}
+use Prim.Native.Nat.{ℕ, _-_}
 use mathlib.Core.Path.{_≡_, refl}
 use mathlib.Core.List.{List, [], _∷_, _++_, map}
-use mathlib.Core.Bool.{Bool, true, false}
+use mathlib.Core.Bool.{true, false}
 use lib.ListN.{length, getD, replicate}
 use Rattle.base.specs.Masks.{all}
 use Rattle.record.specs.declared.Pair.{Pair}
@@ -68,23 +68,29 @@ said-of-seven = refl
 abbrev pub two : ℕ → Stretch → Stretch → Pair → Record
 two room x y above = made room 2 (x ∷ y ∷ []) above
 
-pub rooms : map (λ r. properb 5 2 r) (two 2 (stretch 0 1 half) (stretch 4 5 half) maybe ∷ two 1 (stretch 0 1 half) (stretch 4 5 half) maybe
-    ∷ two 64 (stretch 0 1 half) (stretch 4 5 half) maybe ∷ two 65 (stretch 0 1 half) (stretch 4 5 half) maybe
+pub rooms : map (λ r. properb 5 2 r) (two 2 (stretch 0 1 half) (stretch 4 5 half) maybe
+    ∷ two 1 (stretch 0 1 half) (stretch 4 5 half) maybe
+    ∷ two 64 (stretch 0 1 half) (stretch 4 5 half) maybe
+    ∷ two 65 (stretch 0 1 half) (stretch 4 5 half) maybe
     ∷ made 1 0 [] noPair ∷ made 0 0 [] noPair ∷ blankRecord ∷ [])
     ≡ true ∷ false ∷ true ∷ false ∷ true ∷ false ∷ false ∷ []
 unfolding properb placeOkb blankb followsb heldb pairOkb all
 rooms = refl
 
 -- a last age of 5 and of 6; first 1 and last 1, first 2 and last 1
-pub within-the-horizon : map (λ r. properb 5 2 r) (made 1 1 (stretch 5 5 half ∷ []) noPair ∷ made 1 1 (stretch 5 6 half ∷ []) noPair
-    ∷ made 1 1 (stretch 1 1 half ∷ []) noPair ∷ made 1 1 (stretch 2 1 half ∷ []) noPair ∷ [])
+pub within-the-horizon : map (λ r. properb 5 2 r) (made 1 1 (stretch 5 5 half ∷ []) noPair
+    ∷ made 1 1 (stretch 5 6 half ∷ []) noPair
+    ∷ made 1 1 (stretch 1 1 half ∷ []) noPair
+    ∷ made 1 1 (stretch 2 1 half ∷ []) noPair ∷ [])
     ≡ true ∷ false ∷ true ∷ false ∷ []
 unfolding properb placeOkb blankb followsb heldb pairOkb all
 within-the-horizon = refl
 
 -- apart with the same pair; touching with another, and with the same; sharing an age; in falling order
-pub neighbours : map (λ r. properb 5 2 r) (two 2 (stretch 0 1 half) (stretch 3 5 half) maybe ∷ two 2 (stretch 0 1 half) (stretch 2 5 maybe) maybe
-    ∷ two 2 (stretch 0 1 half) (stretch 2 5 half) maybe ∷ two 2 (stretch 0 2 half) (stretch 2 5 maybe) maybe
+pub neighbours : map (λ r. properb 5 2 r) (two 2 (stretch 0 1 half) (stretch 3 5 half) maybe
+    ∷ two 2 (stretch 0 1 half) (stretch 2 5 maybe) maybe
+    ∷ two 2 (stretch 0 1 half) (stretch 2 5 half) maybe
+    ∷ two 2 (stretch 0 2 half) (stretch 2 5 maybe) maybe
     ∷ two 2 (stretch 2 5 half) (stretch 0 1 maybe) maybe ∷ [])
     ≡ true ∷ true ∷ false ∷ false ∷ false ∷ []
 unfolding properb placeOkb blankb followsb heldb pairOkb all
@@ -92,15 +98,19 @@ neighbours = refl
 
 -- of a stretch: nothing possible; sure and not possible; state 2 possible, of 2 states. Then the same two faults above H, and
 -- there nothing possible, which is allowed
-pub pairs-of-a-record : map (λ r. properb 5 2 r) (made 1 1 (stretch 0 0 noPair ∷ []) noPair ∷ made 1 1 (stretch 0 0 (record { sure = 1; possible = 2 }) ∷ []) noPair
-    ∷ made 1 1 (stretch 0 0 (record { sure = 0; possible = 4 }) ∷ []) noPair ∷ made 1 0 [] (record { sure = 1; possible = 2 })
-    ∷ made 1 0 [] (record { sure = 0; possible = 4 }) ∷ made 1 0 [] noPair ∷ [])
+pub pairs-of-a-record : map (λ r. properb 5 2 r) (made 1 1 (stretch 0 0 noPair ∷ []) noPair
+    ∷ made 1 1 (stretch 0 0 (record { sure = 1; possible = 2 }) ∷ []) noPair
+    ∷ made 1 1 (stretch 0 0 (record { sure = 0; possible = 4 }) ∷ []) noPair
+    ∷ made 1 0 [] (record { sure = 1; possible = 2 })
+    ∷ made 1 0 [] (record { sure = 0; possible = 4 })
+    ∷ made 1 0 [] noPair ∷ [])
     ≡ false ∷ false ∷ false ∷ false ∷ false ∷ true ∷ []
 unfolding properb placeOkb blankb followsb heldb pairOkb all
 pairs-of-a-record = refl
 
 -- a place beyond the count that is not zero: the first of them, and the last
-pub unused-places : map (λ r. properb 5 2 r) (made 2 1 (stretch 0 0 half ∷ stretch 2 2 half ∷ []) noPair ∷ made 1 0 (replicate 63 blank ++ (stretch 0 1 noPair ∷ [])) noPair
+pub unused-places : map (λ r. properb 5 2 r) (made 2 1 (stretch 0 0 half ∷ stretch 2 2 half ∷ []) noPair
+    ∷ made 1 0 (replicate 63 blank ++ (stretch 0 1 noPair ∷ [])) noPair
     ∷ made 1 0 (replicate 63 blank ++ (stretch 0 0 noPair ∷ [])) noPair ∷ [])
     ≡ false ∷ false ∷ true ∷ []
 unfolding properb placeOkb blankb followsb heldb pairOkb all

@@ -34,15 +34,21 @@ push-one a b p = go (eqb (p .possible) 0)
 
 pub start-count : (T : Table) (H : ℕ) → length (stretchesOf H (startPairs T)) ≤ 1
 unfolding startPairs newest
-start-count T H = rw (length-reverse (newest (suc H) (startPairs T)), newest-skip (startPairs T) 1 (suc H) (omega arith) later) (push-one 0 0 (startPairs T 0))
+start-count T H = rw (length-reverse (newest (suc H) (startPairs T)), at-zero) (push-one 0 0 (startPairs T 0))
   where
     later : (k : ℕ) → 1 ≤ k → k < suc H → startPairs T k .possible ≡ 0
     later (suc k) l m = ap (λ (t : Bool). pick t (T .initial)) (eqb·suc-zero k)
     later zero l m = absurd (let z : ⊥ = omega arith in z)
 
+    at-zero : newest (suc H) (startPairs T) ≡ newest 1 (startPairs T)
+    at-zero = newest-skip (startPairs T) 1 (suc H) (omega arith) later
+
 pub gap-count : (T : Table) (H : ℕ) → length (stretchesOf H (gapPairs T)) ≤ 1
 unfolding gapPairs newest
-gap-count T H = rw (length-reverse (newest (suc H) (gapPairs T)), newest-run (gapPairs T) 0 H (gapPairs T 0) (omega arith) (λ k l m. refl)) (push-one 0 H (gapPairs T 0))
+gap-count T H = rw (length-reverse (newest (suc H) (gapPairs T)), at-once) (push-one 0 H (gapPairs T 0))
+  where
+    at-once : newest (suc H) (gapPairs T) ≡ push [] 0 H (gapPairs T 0)
+    at-once = newest-run (gapPairs T) 0 H (gapPairs T 0) (omega arith) (λ k l m. refl)
 
 -- ---- a span
 
@@ -56,13 +62,16 @@ touches-later s x a p = bool-ext _ _ (
   λ h. let e = touches-iff x a p .0 h in touches-iff (later s x) (a + s) p .1 (omega (arith, e .0), e .1),
 )
 
-map-push : (s : ℕ) (L : List Stretch) (a b : ℕ) (p : Pair) → push (map (later s) L) (a + s) (b + s) p ≡ map (later s) (push L a b p)
+map-push : (s : ℕ) (L : List Stretch) (a b : ℕ) (p : Pair)
+    → push (map (later s) L) (a + s) (b + s) p ≡ map (later s) (push L a b p)
 unfolding push
 map-push s L a b p = go (eqb (p .possible) 0)
   where
     put-later : (L : List Stretch) → put (map (later s) L) (a + s) (b + s) p ≡ map (later s) (put L a b p)
     put-later [] = refl
-    put-later (x ∷ xs) = ap (λ (t : Bool). putIf t (later s x) (map (later s) xs) (a + s) (b + s) p) (touches-later s x a p) ∙ two (touches x a p)
+    put-later (x ∷ xs) =
+        ap (λ (t : Bool). putIf t (later s x) (map (later s) xs) (a + s) (b + s) p) (touches-later s x a p)
+        ∙ two (touches x a p)
       where
         two : (t : Bool) → putIf t (later s x) (map (later s) xs) (a + s) (b + s) p ≡ map (later s) (putIf t x xs a b p)
         two true = refl
@@ -73,12 +82,18 @@ map-push s L a b p = go (eqb (p .possible) 0)
     go false = put-later L
 
 -- where g is f moved up by s, the stretches of g are those of f moved up
-pub newest-later : (s n : ℕ) (f g : Pairs) → ((k : ℕ) → k < s → g k .possible ≡ 0) → ((k : ℕ) → k < n → g (k + s) ≡ f k) → newest (n + s) g ≡ map (later s) (newest n f)
+pub newest-later : (s n : ℕ) (f g : Pairs)
+    → ((k : ℕ) → k < s → g k .possible ≡ 0) → ((k : ℕ) → k < n → g (k + s) ≡ f k)
+    → newest (n + s) g ≡ map (later s) (newest n f)
 unfolding newest
 newest-later s zero f g h e = rw zero-add (newest-skip g 0 s (omega arith) (λ k l u. h k u))
-newest-later s (suc n) f g h e = rw suc-add (ap₂ (λ (L : List Stretch) (p : Pair). push L (n + s) (n + s) p) (newest-later s n f g h (λ k l. e k (omega arith))) (e n (omega arith)) ∙ map-push s (newest n f) n n (f n))
+newest-later s (suc n) f g h e = rw suc-add (
+    let ih = newest-later s n f g h (λ k l. e k (omega arith)) in
+    ap₂ (λ (L : List Stretch) (p : Pair). push L (n + s) (n + s) p) ih (e n (omega arith))
+    ∙ map-push s (newest n f) n n (f n))
 
-pub span-count : (T : Table) (s : ℕ) (f : Pairs) → length (stretchesOf (horizon T) (stepPairs T (span s) f)) ≤ length (stretchesOf (horizon T) f)
+pub span-count : (T : Table) (s : ℕ) (f : Pairs)
+    → length (stretchesOf (horizon T) (stepPairs T (span s) f)) ≤ length (stretchesOf (horizon T) f)
 unfolding stepPairs stepAt newest
 span-count T s f = rw (length-reverse (newest (suc H) g), length-reverse (newest (suc H) f)) (go (decLe s (suc H)))
   where
@@ -92,7 +107,9 @@ span-count T s f = rw (length-reverse (newest (suc H) g), length-reverse (newest
     gone k l m = span-gone H s (possibles f) k l m
 
     go : Dec (s ≤ suc H) → length (newest (suc H) g) ≤ length (newest (suc H) f)
-    go (yes l) = le-trans (le-of-eq (ap length same ∙ length-map (newest n f) (later s))) (newest-length f n (suc H) (omega arith))
+    go (yes l) = le-trans
+        (le-of-eq (ap length same ∙ length-map (newest n f) (later s)))
+        (newest-length f n (suc H) (omega arith))
       where
         n : ℕ
         n = suc H - s
@@ -100,8 +117,11 @@ span-count T s f = rw (length-reverse (newest (suc H) g), length-reverse (newest
         moved : (h : ℕ → ℕ) (k : ℕ) → k < n → spanAt H s h (k + s) ≡ h k
         moved h k b = span-moved H s h (k + s) (omega arith) (omega arith) ∙ ap h (omega arith)
 
+        pairs : (k : ℕ) → k < n → g (k + s) ≡ f k
+        pairs k b = pair-ext (g (k + s)) (f k) (moved (sures f) k b) (moved (possibles f) k b)
+
         same : newest (suc H) g ≡ map (later s) (newest n f)
         same =
             ap (λ (m : ℕ). newest m g) (sym (sub-add-cancel l))
-            ∙ newest-later s n f g (λ k b. gone k (omega arith) b) (λ k b. pair-ext (g (k + s)) (f k) (moved (sures f) k b) (moved (possibles f) k b))
+            ∙ newest-later s n f g (λ k b. gone k (omega arith) b) pairs
     go (no d) = rw (newest-skip g 0 (suc H) (omega arith) (λ k l b. gone k (omega arith) (omega arith))) (omega arith)

@@ -1,9 +1,9 @@
 -- The test of a record says exactly whether it is proper (`proper-iff`), clause by clause. Assumes nothing.
 use Prim.Native.Nat.{ℕ, zero, suc, _-_, _^_, _≤_, _<_}
-use mathlib.Core.Path.{_≡_, refl, sym, ap, _∙_, subst}
-use mathlib.Core.Logic.{_↔_, _⊎_, inl, inr, _≢_, ⊎-elim, Iff·rfl, Iff·trans, Iff·symm, Iff·not, Iff·and}
+use mathlib.Core.Path.{_≡_, refl, ap, subst}
+use mathlib.Core.Logic.{_↔_, _⊎_, inl, inr, _≢_, Iff·trans, Iff·symm, Iff·not}
 use mathlib.Core.Bool.{Bool, true, false, _&&_, _||_, cond, not}
-use native.Mathlib.Decide.{ℕ-discrete, decLt}
+use native.Mathlib.Decide.{decLt}
 use native.Mathlib.Omega.{arith}
 use lib.Bits.{bitOr}
 use lib.Dec.{T as Is, eqb, leb, ltb}
@@ -20,19 +20,46 @@ use Rattle.record.proofs.Stretches.{samePair-iff}
 
 pub pairOk-iff : (n : ℕ) (p : Pair) → Is (pairOkb n p) ↔ PairOk n p
 unfolding pairOkb
-pairOk-iff n p =
-    Iff·trans (and-iff (eqb (bitOr (p .sure) (p .possible)) (p .possible)) (ltb (p .possible) (2 ^ n))
-    (Iff·trans (eqb-iff (bitOr (p .sure) (p .possible)) (p .possible)) (Iff·symm (part-or (p .sure) (p .possible)))) (ltb-iff (p .possible) (2 ^ n)))
+pairOk-iff n p = Iff·trans
+    (and-iff (eqb (bitOr s m) m) (ltb m (2 ^ n)) part (ltb-iff m (2 ^ n)))
     ((λ h. record { part = h .0; small = h .1 }), λ h. (h .part, h .small))
+  where
+    s : ℕ
+    s = p .sure
+
+    m : ℕ
+    m = p .possible
+
+    part : Is (eqb (bitOr s m) m) ↔ Part s m
+    part = Iff·trans (eqb-iff (bitOr s m) m) (Iff·symm (part-or s m))
 
 pub held-iff : (H n : ℕ) (x : Stretch) → Is (heldb H n x) ↔ Held H n x
 unfolding heldb
-held-iff H n x =
-    Iff·trans (and-iff (pairOkb n (x .pair) && leb (x .last) H && leb (x .first) (x .last)) (not (eqb (x .pair .possible) 0))
-    (and-iff (pairOkb n (x .pair) && leb (x .last) H) (leb (x .first) (x .last))
-    (and-iff (pairOkb n (x .pair)) (leb (x .last) H) (pairOk-iff n (x .pair)) (leb-iff (x .last) H)) (leb-iff (x .first) (x .last)))
-    (Iff·trans (not-iff (eqb (x .pair .possible) 0)) (Iff·not (eqb-iff (x .pair .possible) 0))))
-    ((λ h. record { pair = h .0 .0 .0; within = h .0 .0 .1; order = h .0 .1; some = h .1 }), λ h. (((h .pair, h .within), h .order), h .some))
+held-iff H n x = Iff·trans (and-iff (okb && withinb && orderb) someb (and-iff (okb && withinb) orderb within order) some) (
+  (λ h. record { pair = h .0 .0 .0; within = h .0 .0 .1; order = h .0 .1; some = h .1 }),
+  λ h. (((h .pair, h .within), h .order), h .some),
+)
+  where
+    okb : Bool
+    okb = pairOkb n (x .pair)
+
+    withinb : Bool
+    withinb = leb (x .last) H
+
+    orderb : Bool
+    orderb = leb (x .first) (x .last)
+
+    someb : Bool
+    someb = not (eqb (x .pair .possible) 0)
+
+    within : Is (okb && withinb) ↔ (PairOk n (x .pair) × (x .last ≤ H))
+    within = and-iff okb withinb (pairOk-iff n (x .pair)) (leb-iff (x .last) H)
+
+    order : Is orderb ↔ (x .first ≤ x .last)
+    order = leb-iff (x .first) (x .last)
+
+    some : Is someb ↔ (x .pair .possible ≢ 0)
+    some = Iff·trans (not-iff (eqb (x .pair .possible) 0)) (Iff·not (eqb-iff (x .pair .possible) 0))
 
 -- y lies above x, and differs in its pair where it touches x
 abbrev Next : Stretch → Stretch → Type 0
@@ -40,20 +67,33 @@ Next x y = (x .last < y .first) × (suc (x .last) ≡ y .first → x .pair ≢ y
 
 pub follows-iff : (x y : Stretch) → Is (followsb x y) ↔ Next x y
 unfolding followsb
-follows-iff x y =
-    and-iff (ltb (x .last) (y .first)) (not (eqb (suc (x .last)) (y .first) && samePair (x .pair) (y .pair))) (ltb-iff (x .last) (y .first))
-    (Iff·trans (Iff·trans (not-iff (eqb (suc (x .last)) (y .first) && samePair (x .pair) (y .pair)))
-    (Iff·not (and-iff (eqb (suc (x .last)) (y .first)) (samePair (x .pair) (y .pair)) (eqb-iff (suc (x .last)) (y .first)) (samePair-iff (x .pair) (y .pair)))))
-    ((λ h e p. h (e, p)), λ h k. h (k .0) (k .1)))
+follows-iff x y = and-iff (ltb (x .last) (y .first)) (not (touch && same)) (ltb-iff (x .last) (y .first)) differ
+  where
+    touch : Bool
+    touch = eqb (suc (x .last)) (y .first)
+
+    same : Bool
+    same = samePair (x .pair) (y .pair)
+
+    both : Is (touch && same) ↔ ((suc (x .last) ≡ y .first) × (x .pair ≡ y .pair))
+    both = and-iff touch same (eqb-iff (suc (x .last)) (y .first)) (samePair-iff (x .pair) (y .pair))
+
+    differ : Is (not (touch && same)) ↔ (suc (x .last) ≡ y .first → x .pair ≢ y .pair)
+    differ = Iff·trans (Iff·trans (not-iff (touch && same)) (Iff·not both))
+        ((λ h e p. h (e, p)), λ h k. h (k .0) (k .1))
 
 pub blank-iff : (x : Stretch) → Is (blankb x) ↔ (x ≡ blank)
 unfolding blankb
-blank-iff x =
-    Iff·trans (and-iff (eqb (x .first) 0 && eqb (x .last) 0) (samePair (x .pair) noPair)
-    (and-iff (eqb (x .first) 0) (eqb (x .last) 0) (eqb-iff (x .first) 0) (eqb-iff (x .last) 0)) (samePair-iff (x .pair) noPair)) (
-      (λ h. λ i. record { first = h .0 .0 i; last = h .0 .1 i; pair = h .1 i }),
-      λ e. ((ap (λ (s : Stretch). s .first) e, ap (λ (s : Stretch). s .last) e), ap (λ (s : Stretch). s .pair) e),
-    )
+blank-iff x = Iff·trans zeros (
+  (λ h. λ i. record { first = h .0 .0 i; last = h .0 .1 i; pair = h .1 i }),
+  λ e. ((ap (λ (s : Stretch). s .first) e, ap (λ (s : Stretch). s .last) e), ap (λ (s : Stretch). s .pair) e),
+)
+  where
+    ages : Is (eqb (x .first) 0 && eqb (x .last) 0) ↔ ((x .first ≡ 0) × (x .last ≡ 0))
+    ages = and-iff (eqb (x .first) 0) (eqb (x .last) 0) (eqb-iff (x .first) 0) (eqb-iff (x .last) 0)
+
+    zeros : Is (blankb x) ↔ (((x .first ≡ 0) × (x .last ≡ 0)) × (x .pair ≡ noPair))
+    zeros = and-iff (eqb (x .first) 0 && eqb (x .last) 0) (samePair (x .pair) noPair) ages (samePair-iff (x .pair) noPair)
 
 cond-iff : (b x y : Bool) → Is (cond b x y) ↔ ((Is b → Is x) × (¬ Is b → Is y))
 cond-iff true x y = ((λ h. ((λ t. h), λ n. absurd (n tt))), λ h. h .0 tt)
@@ -67,45 +107,75 @@ module _ (H n : ℕ) (r : Record) where
   abbrev PlaceOk : ℕ → Type 0
   PlaceOk i = (i < r .count → Used i) × (r .count ≤ i → place r i ≡ blank)
 
-  used-iff : (i : ℕ) → Is (heldb H n (place r i) && (eqb i 0 || followsb (place r (i - 1)) (place r i))) ↔ Used i
-  used-iff i = and-iff (heldb H n (place r i)) (eqb i 0 || followsb (place r (i - 1)) (place r i)) (held-iff H n (place r i))
-      (Iff·trans (or-iff (eqb i 0) (followsb (place r (i - 1)) (place r i)) (eqb-iff i 0) (follows-iff (place r (i - 1)) (place r i))) (to, from i))
+  abbrev usedb : ℕ → Bool
+  usedb i = heldb H n (place r i) && (eqb i 0 || followsb (place r (i - 1)) (place r i))
+
+  used-iff : (i : ℕ) → Is (usedb i) ↔ Used i
+  used-iff i = and-iff (heldb H n (place r i)) (eqb i 0 || follows)
+      (held-iff H n (place r i)) (Iff·trans first-or-next (to, from i))
     where
+      follows : Bool
+      follows = followsb (place r (i - 1)) (place r i)
+
+      first-or-next : Is (eqb i 0 || follows) ↔ ((i ≡ 0) ⊎ Next (place r (i - 1)) (place r i))
+      first-or-next = or-iff (eqb i 0) follows (eqb-iff i 0) (follows-iff (place r (i - 1)) (place r i))
+
       to : (i ≡ 0) ⊎ Next (place r (i - 1)) (place r i) → (j : ℕ) → suc j ≡ i → Next (place r j) (place r i)
       to (inl z) j e = absurd (let c : ⊥ = omega arith in c)
       to (inr k) j e = subst (λ (m : ℕ). Next (place r m) (place r i)) (let d : i - 1 ≡ j = omega arith in d) k
 
       from : (i : ℕ) → ((j : ℕ) → suc j ≡ i → Next (place r j) (place r i)) → (i ≡ 0) ⊎ Next (place r (i - 1)) (place r i)
       from zero h = inl refl
-      from (suc j) h = inr (subst (λ (m : ℕ). Next (place r m) (place r (suc j))) (let d : j ≡ suc j - 1 = omega arith in d) (h j refl))
+      from (suc j) h = let d : j ≡ suc j - 1 = omega arith in
+          inr (subst (λ (m : ℕ). Next (place r m) (place r (suc j))) d (h j refl))
 
   pub placeOk-iff : (i : ℕ) → Is (placeOkb H n r i) ↔ PlaceOk i
   unfolding placeOkb
-  placeOk-iff i = Iff·trans (cond-iff (ltb i (r .count)) (heldb H n (place r i) && (eqb i 0 || followsb (place r (i - 1)) (place r i))) (blankb (place r i))) (
-    (λ h. ((λ l. used-iff i .0 (h .0 (ltb-iff i (r .count) .1 l))), λ l. blank-iff (place r i) .0 (h .1 (λ t. let z : i < r .count = ltb-iff i (r .count) .0 t in omega arith)))),
-    λ h. ((λ t. used-iff i .1 (h .0 (ltb-iff i (r .count) .0 t))), λ k. blank-iff (place r i) .1 (h .1 (not-less k))),
+  placeOk-iff i = Iff·trans (cond-iff (ltb i (r .count)) (usedb i) (blankb (place r i))) (
+    (λ h. ((λ l. used-iff i .0 (h .0 (less .1 l))), λ l. blank-iff (place r i) .0 (h .1 (not-less .1 l)))),
+    λ h. ((λ t. used-iff i .1 (h .0 (less .0 t))), λ k. blank-iff (place r i) .1 (h .1 (not-less .0 k))),
   )
     where
-      not-less : ¬ Is (ltb i (r .count)) → r .count ≤ i
-      not-less k = go (decLt i (r .count))
+      less : Is (ltb i (r .count)) ↔ (i < r .count)
+      less = ltb-iff i (r .count)
+
+      not-less : (¬ Is (ltb i (r .count))) ↔ (r .count ≤ i)
+      not-less = ((λ k. go k (decLt i (r .count))), λ l t. omega (arith, less .0 t))
         where
-          go : Dec (i < r .count) → r .count ≤ i
-          go (yes l) = absurd (k (ltb-iff i (r .count) .1 l))
-          go (no d) = omega arith
+          go : ¬ Is (ltb i (r .count)) → Dec (i < r .count) → r .count ≤ i
+          go k (yes l) = absurd (k (less .1 l))
+          go k (no d) = omega arith
 
   pub proper-iff : Is (properb H n r) ↔ Proper H n r
   unfolding properb
-  proper-iff =
-      Iff·trans (and-iff (leb 1 (r .room) && leb (r .room) 64 && leb (r .count) (r .room) && all 64 (placeOkb H n r)) (pairOkb n (r .above))
-      (and-iff (leb 1 (r .room) && leb (r .room) 64 && leb (r .count) (r .room)) (all 64 (placeOkb H n r))
-      (and-iff (leb 1 (r .room) && leb (r .room) 64) (leb (r .count) (r .room))
-      (and-iff (leb 1 (r .room)) (leb (r .room) 64) (leb-iff 1 (r .room)) (leb-iff (r .room) 64)) (leb-iff (r .count) (r .room)))
-      (all-iff 64 (placeOkb H n r)))
-      (pairOk-iff n (r .above)))
-      (to, from)
+  proper-iff = Iff·trans (and-iff (roomb && fitsb && placesb) (pairOkb n (r .above)) places (pairOk-iff n (r .above))) (to, from)
     where
+      roomb : Bool
+      roomb = leb 1 (r .room) && leb (r .room) 64
+
+      fitsb : Bool
+      fitsb = leb (r .count) (r .room)
+
+      placesb : Bool
+      placesb = all 64 (placeOkb H n r)
+
+      Room : Type 0
+      Room = (1 ≤ r .room) × (r .room ≤ 64)
+
+      Places : Type 0
+      Places = (i : ℕ) → i < 64 → Is (placeOkb H n r i)
+
       Clauses : Type 0
-      Clauses = ((((1 ≤ r .room) × (r .room ≤ 64)) × (r .count ≤ r .room)) × ((i : ℕ) → i < 64 → Is (placeOkb H n r i))) × PairOk n (r .above)
+      Clauses = ((Room × (r .count ≤ r .room)) × Places) × PairOk n (r .above)
+
+      room : Is roomb ↔ Room
+      room = and-iff (leb 1 (r .room)) (leb (r .room) 64) (leb-iff 1 (r .room)) (leb-iff (r .room) 64)
+
+      fits : Is (roomb && fitsb) ↔ (Room × (r .count ≤ r .room))
+      fits = and-iff roomb fitsb room (leb-iff (r .count) (r .room))
+
+      places : Is (roomb && fitsb && placesb) ↔ ((Room × (r .count ≤ r .room)) × Places)
+      places = and-iff (roomb && fitsb) placesb fits (all-iff 64 (placeOkb H n r))
 
       to : Clauses → Proper H n r
       to h = record {
@@ -123,7 +193,11 @@ module _ (H n : ℕ) (r : Record) where
           in-use i l = placeOk-iff i .0 (h .0 .1 i (omega (arith, h .0 .0 .0 .1, h .0 .0 .1))) .0 l
 
       from : Proper H n r → Clauses
-      from p = ((((p .room-low, p .room-high), p .fits), λ i b. placeOk-iff i .1 ((λ l. (p .each i l, before i l)), λ l. p .unused i l b)), p .above)
+      from p = ((((p .room-low, p .room-high), p .fits), each), p .above)
         where
           before : (i : ℕ) → i < r .count → (j : ℕ) → suc j ≡ i → Next (place r j) (place r i)
-          before i l j e = subst (λ (m : ℕ). Next (place r j) (place r m)) e (p .rising j (omega arith), p .differ j (omega arith))
+          before i l j e = subst (λ (m : ℕ). Next (place r j) (place r m)) e
+              (p .rising j (omega arith), p .differ j (omega arith))
+
+          each : Places
+          each i b = placeOk-iff i .1 ((λ l. (p .each i l, before i l)), λ l. p .unused i l b)

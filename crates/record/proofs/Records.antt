@@ -1,31 +1,30 @@
 -- The record and its pairs. A proper record is the one that holds its own pairs (`canon-record`), so two proper records of one
--- room with the same pairs are the same, place for place (`unique`), and a proper record's count is the number of stretches
--- (`count-longest`). The record that holds f is proper and says f (`recordOf-proper`, `recordOf-pairs`). Whether a record is
--- proper, as a test: `proper-iff`. Assumes nothing.
-use Prim.Native.Nat.{ℕ, zero, suc, _+_, _-_, _^_, _≤_, _<_}
+-- room with the same pairs are the same, place for place (`unique`); what a proper record holds and counts are the longest runs
+-- (`held-longest`, `count-longest`). The record that holds f is proper and says f (`recordOf-proper`, `recordOf-pairs`). Assumes
+-- nothing.
+use Prim.Native.Nat.{ℕ, zero, suc, _+_, _-_, _≤_, _<_}
 use mathlib.Core.Path.{_≡_, refl, sym, ap, ap₂, _∙_, subst}
-use mathlib.Core.Logic.{_↔_, _⊎_, inl, inr, _≢_, ⊎-elim, Iff·trans, Iff·symm, Iff·not}
-use mathlib.Core.List.{List, [], _∷_, _++_, reverse, reverse-append, reverse-reverse}
-use mathlib.Core.Bool.{Bool, true, false, _&&_, _||_, cond, not}
+use mathlib.Core.Logic.{_↔_, _≢_}
+use mathlib.Core.List.{List, [], _∷_, _++_, reverse, reverse-append, reverse-reverse, List·Memᴰ}
+use mathlib.Core.Bool.{Bool, true, false, cond}
 use native.Mathlib.Nat.{le-refl}
-use native.Mathlib.Decide.{ℕ-discrete, decLe, decLt}
+use native.Mathlib.Decide.{ℕ-discrete, decLe}
 use native.Mathlib.Omega.{arith}
-use lib.Bits.{bitOr}
-use lib.Dec.{T as Is, eqb, leb, ltb}
-use lib.ListN.{length, getD, take, drop, replicate, length-drop, length-replicate, length-reverse, getD-replicate, take-append-drop, length-append}
+use lib.Dec.{T as Is, leb}
+use lib.ListN.{length, getD, take, drop, replicate, length-drop, length-replicate, getD-replicate, take-append-drop, length-append}
 use lib.Pow.{pow-pos}
 use lib.Seq.{take-suc, take-length, ext-getD, getD-drop, length-take-le, take-at, getD-append-add}
-use Rattle.base.specs.Masks.{Has, Part, all}
-use Rattle.base.proofs.Tests.{is-true, is-false, eqb-iff, leb-iff, ltb-iff, not-iff, and-iff, or-iff, all-iff}
-use Rattle.base.proofs.Masks.{not-has-zero, empty-mask, part-or}
+use Rattle.base.specs.Masks.{Has}
+use Rattle.base.proofs.Tests.{is-true, is-false, leb-iff}
+use Rattle.base.proofs.Masks.{not-has-zero, empty-mask}
 use Rattle.record.specs.declared.Pair.{Pair}
 use Rattle.record.specs.declared.Stretch.{Stretch}
 use Rattle.record.specs.declared.Record.{Record}
 use Rattle.record.specs.Pairs.{Pairs, noPair}
-use Rattle.record.specs.Stretches.{samePair, newest, stretchesOf, starts}
-use Rattle.record.specs.Records.{blank, place, inside, pairIn, pairsAt, recordOf, PairOk, Held, Proper, pairOkb, heldb, followsb, blankb, placeOkb, properb}
-use Rattle.record.proofs.Stretches.{pair-ext, samePair-iff, meaning, Apart, Good, ProperList, canon, newest-cong, newest-proper, meaning-newest}
-use Rattle.record.proofs.Longest.{stretches-count}
+use Rattle.record.specs.Stretches.{LongestRun, newest, stretchesOf, starts}
+use Rattle.record.specs.Records.{blank, place, inside, pairIn, pairsAt, recordOf, PairOk, Held, Proper}
+use Rattle.record.proofs.Stretches.{pair-ext, meaning, Apart, Good, ProperList, canon, newest-cong, newest-proper, meaning-newest}
+use Rattle.record.proofs.Longest.{stretches-longest, stretches-count}
 
 reverse-take : (l : List Stretch) (i : ℕ) → i < length l → reverse (take (suc i) l) ≡ getD l i blank ∷ reverse (take i l)
 reverse-take l i h = ap reverse (take-suc l i blank h) ∙ reverse-append (take i l) (getD l i blank ∷ [])
@@ -37,20 +36,29 @@ used r = reverse (take (r .count) (r .places))
 pairIn-meaning : (l : List Stretch) (n k : ℕ) → n ≤ length l → pairIn l n k ≡ meaning (reverse (take n l)) k
 unfolding pairIn meaning
 pairIn-meaning l zero k h = refl
-pairIn-meaning l (suc n) k h = rw (reverse-take l n h) (ap (cond (inside (getD l n blank) k) (getD l n blank .pair)) (pairIn-meaning l n k (omega arith)))
+pairIn-meaning l (suc n) k h = rw (reverse-take l n h)
+    (ap (cond (inside (getD l n blank) k) (getD l n blank .pair)) (pairIn-meaning l n k (omega arith)))
 
 module _ (H : ℕ) (r : Record) where
   pub pairsAt-low : r .count ≤ length (r .places) → (k : ℕ) → k ≤ H → pairsAt H r k ≡ meaning (used r) k
   unfolding pairsAt
-  pairsAt-low c k l = ap (λ (t : Bool). cond t (pairIn (r .places) (r .count) k) (r .above)) (is-true (leb k H) (leb-iff k H .1 l)) ∙ pairIn-meaning (r .places) (r .count) k c
+  pairsAt-low c k l =
+      ap (λ (t : Bool). cond t (pairIn (r .places) (r .count) k) (r .above)) (is-true (leb k H) (leb-iff k H .1 l))
+      ∙ pairIn-meaning (r .places) (r .count) k c
 
   pub pairsAt-above : pairsAt H r (suc H) ≡ r .above
   unfolding pairsAt
-  pairsAt-above = ap (λ (t : Bool). cond t (pairIn (r .places) (r .count) (suc H)) (r .above)) (is-false (leb (suc H) H) (λ t. let z : suc H ≤ H = leb-iff (suc H) H .0 t in omega arith))
+  pairsAt-above = ap (λ (t : Bool). cond t (pairIn (r .places) (r .count) (suc H)) (r .above)) (is-false (leb (suc H) H) not-low)
+    where
+      not-low : ¬ Is (leb (suc H) H)
+      not-low t = let z : suc H ≤ H = leb-iff (suc H) H .0 t in omega arith
 
 -- a pair with nothing possible has nothing sure
 pub pairOk-empty : (n : ℕ) (p : Pair) → PairOk n p → p .possible ≡ 0 → p ≡ noPair
-pairOk-empty n p o e = pair-ext p noPair (empty-mask (p .sure) (λ i h. not-has-zero i (subst (λ (x : ℕ). Has x i) e (o .part i h)))) e
+pairOk-empty n p o e = pair-ext p noPair (empty-mask (p .sure) none) e
+  where
+    none : (i : ℕ) → ¬ Has (p .sure) i
+    none i h = not-has-zero i (subst (λ (x : ℕ). Has x i) e (o .part i h))
 
 pub noPair-ok : (n : ℕ) → PairOk n noPair
 noPair-ok n = record { part = λ i h. h; small = pow-pos n }
@@ -66,7 +74,8 @@ proper-pairs H n r p k = go (leb k H)
 
     among : (i : ℕ) → i ≤ r .count → PairOk n (pairIn (r .places) i k)
     among zero l = noPair-ok n
-    among (suc i) l = pick (inside (place r i) k) (place r i .pair) (pairIn (r .places) i k) (p .each i l .pair) (among i (omega arith))
+    among (suc i) l = pick (inside (place r i) k) (place r i .pair) (pairIn (r .places) i k)
+        (p .each i l .pair) (among i (omega arith))
 
     go : (t : Bool) → PairOk n (cond t (pairIn (r .places) (r .count) k) (r .above))
     go true = among (r .count) (le-refl (r .count))
@@ -84,15 +93,22 @@ module _ (H n : ℕ) (r : Record) (whole : length (r .places) ≡ 64) (ok : Prop
   inside-places : r .count ≤ length (r .places)
   inside-places = omega (arith, ok .fits, ok .room-high)
 
-  used-proper : (i : ℕ) → i ≤ r .count → (b : ℕ) → ((j : ℕ) → suc j ≡ i → place r j .last < b) → ProperList (PairOk n) b (reverse (take i (r .places)))
+  used-proper : (i : ℕ) → i ≤ r .count → (b : ℕ) → ((j : ℕ) → suc j ≡ i → place r j .last < b)
+      → ProperList (PairOk n) b (reverse (take i (r .places)))
   used-proper zero l b h = tt
   used-proper (suc i) l b h =
       rw (reverse-take (r .places) i (omega (arith, inside-places))) (
-        record { pair = ok .each i (omega arith) .pair; below = h i refl; order = ok .each i (omega arith) .order; some = ok .each i (omega arith) .some },
+        record { pair = held .pair; below = h i refl; order = held .order; some = held .some },
         apart i (omega arith),
-        used-proper i (omega arith) (place r i .first) (λ j e. subst (λ (i : ℕ). place r j .last < place r i .first) e (ok .rising j (omega arith))),
+        used-proper i (omega arith) (place r i .first) rising,
       )
     where
+      held : Held H n (place r i)
+      held = ok .each i (omega arith)
+
+      rising : (j : ℕ) → suc j ≡ i → place r j .last < place r i .first
+      rising j e = subst (λ (m : ℕ). place r j .last < place r m .first) e (ok .rising j (omega arith))
+
       apart : (i : ℕ) → i < r .count → Apart (place r i) (reverse (take i (r .places)))
       apart zero l = tt
       apart (suc i) l = rw (reverse-take (r .places) i (omega (arith, inside-places))) (ok .differ i l)
@@ -100,7 +116,10 @@ module _ (H n : ℕ) (r : Record) (whole : length (r .places) ≡ 64) (ok : Prop
   newest-used : newest (suc H) (pairsAt H r) ≡ used r
   newest-used =
       newest-cong (suc H) (pairsAt H r) (meaning (used r)) (λ k l. pairsAt-low H r inside-places k (omega arith))
-      ∙ canon (PairOk n) (used r) (suc H) (used-proper (r .count) (le-refl (r .count)) (suc H) (λ j e. omega (arith, ok .each j (omega arith) .within)))
+      ∙ canon (PairOk n) (used r) (suc H) (used-proper (r .count) (le-refl (r .count)) (suc H) low)
+    where
+      low : (j : ℕ) → suc j ≡ r .count → place r j .last < suc H
+      low j e = omega (arith, ok .each j (omega arith) .within)
 
   -- the stretches of its pairs are the ones it holds
   pub stretches-used : stretchesOf H (pairsAt H r) ≡ take (r .count) (r .places)
@@ -108,6 +127,11 @@ module _ (H n : ℕ) (r : Record) (whole : length (r .places) ≡ 64) (ok : Prop
 
   pub count-used : length (stretchesOf H (pairsAt H r)) ≡ r .count
   count-used = ap length stretches-used ∙ length-take-le (r .count) (r .places) inside-places
+
+  -- what it holds are exactly the longest runs of its pairs
+  pub held-longest : (x : Stretch) → List·Memᴰ x (take (r .count) (r .places)) ↔ LongestRun H (pairsAt H r) x
+  held-longest x = subst (λ (L : List Stretch). List·Memᴰ x L ↔ LongestRun H (pairsAt H r) x) stretches-used
+      (stretches-longest H (pairsAt H r) x)
 
   -- "the count is that of the stretches as defined"
   pub count-longest : r .count ≡ starts (suc H) (pairsAt H r)
@@ -117,7 +141,9 @@ module _ (H n : ℕ) (r : Record) (whole : length (r .places) ≡ 64) (ok : Prop
   unused-blank = ext-getD blank (drop (r .count) (r .places)) (replicate (64 - r .count) blank)
       (simp (length-drop, length-replicate, whole))
       (λ i l. let b : i < 64 - r .count = rw (length-drop, whole) at l in
-      getD-drop (r .count) (r .places) i blank ∙ ok .unused (r .count + i) (omega arith) (omega arith) ∙ sym (getD-replicate (64 - r .count) i blank blank b))
+      getD-drop (r .count) (r .places) i blank
+      ∙ ok .unused (r .count + i) (omega arith) (omega arith)
+      ∙ sym (getD-replicate (64 - r .count) i blank blank b))
 
   pub canon-record : recordOf (r .room) H (pairsAt H r) ≡ r
   unfolding recordOf
@@ -146,8 +172,10 @@ recordOf-cong room H f g e = λ i. record {
 pub unique : (H n : ℕ) (r s : Record) → length (r .places) ≡ 64 → length (s .places) ≡ 64 → Proper H n r → Proper H n s
     → r .room ≡ s .room → ((k : ℕ) → k ≤ suc H → pairsAt H r k ≡ pairsAt H s k) → r ≡ s
 unique H n r s wr ws pr ps same-room e =
-    sym (canon-record H n r wr pr) ∙ recordOf-cong (r .room) H (pairsAt H r) (pairsAt H s) e
-    ∙ ap (λ (room : ℕ). recordOf room H (pairsAt H s)) same-room ∙ canon-record H n s ws ps
+    sym (canon-record H n r wr pr)
+    ∙ recordOf-cong (r .room) H (pairsAt H r) (pairsAt H s) e
+    ∙ ap (λ (room : ℕ). recordOf room H (pairsAt H s)) same-room
+    ∙ canon-record H n s ws ps
 
 -- ---- from the list to the places
 
@@ -165,7 +193,8 @@ module _ (P : Pair → Type 0) (l : List Stretch) where
     where
       go : Dec (i ≡ c) → (i < c → Good P (at c .first) (at i)) → Good P b (at i)
       go (yes e) ih = subst (λ (j : ℕ). Good P b (at j)) (sym e) (split c h p .0)
-      go (no d) ih = let g = ih (omega arith) in let g′ = split c h p .0 in
+      go (no d) ih = let g = ih (omega arith) in
+          let g′ = split c h p .0 in
           record { pair = g .pair; below = omega (arith, g .below, g′ .below, g′ .order); order = g .order; some = g .some }
 
   index-next : (c b : ℕ) → c ≤ length l → ProperList P b (reverse (take c l)) → (i : ℕ) → suc i < c
@@ -178,13 +207,17 @@ module _ (P : Pair → Type 0) (l : List Stretch) where
 
       go : Dec (suc i ≡ c) → (suc i < c → Next (suc i)) → Next (suc i)
       go (no d) ih = ih (omega arith)
-      go (yes e) ih = subst Next (sym e) (last (split c h p))
+      go (yes e) ih = let s = split c h p in subst Next (sym e) (last (s .1, s .2))
         where
-          last : Good P b (at c) × Apart (at c) (reverse (take c l)) × ProperList P (at c .first) (reverse (take c l)) → Next c
+          -- what the list says of the stretches before c
+          Before : List Stretch → Type 0
+          Before L = Apart (at c) L × ProperList P (at c .first) L
+
+          last : Before (reverse (take c l)) → Next c
           last s =
               let m : suc i ≤ length l = omega arith in
-              let t = subst (λ (j : ℕ). Apart (at c) (reverse (take j l)) × ProperList P (at c .first) (reverse (take j l))) (sym e) (s .1, s .2) in
-              let u : Apart (at c) (at i ∷ reverse (take i l)) × ProperList P (at c .first) (at i ∷ reverse (take i l)) = rw (reverse-take l i m) at t in
+              let t : Before (reverse (take (suc i) l)) = subst (λ (j : ℕ). Before (reverse (take j l))) (sym e) s in
+              let u : Before (at i ∷ reverse (take i l)) = rw (reverse-take l i m) at t in
               (u .1 .0 .below, u .0)
 
 -- the stretches are listed in rising order, and so each of them once
@@ -203,19 +236,23 @@ stretches-rising H f i l = index-next Any L (length L) (suc H) (le-refl (length 
 
 -- ---- the record that holds f, where every pair of f is a proper one and the stretches fit into the room
 
-module _ (room H n : ℕ) (f : Pairs) (ok : (k : ℕ) → k ≤ suc H → PairOk n (f k)) (fits : length (stretchesOf H f) ≤ room) (low : 1 ≤ room) (high : room ≤ 64) where
+module _ (room H n : ℕ) (f : Pairs) (ok : (k : ℕ) → k ≤ suc H → PairOk n (f k))
+    (fits : length (stretchesOf H f) ≤ room) (low : 1 ≤ room) (high : room ≤ 64) where
   abbrev L : List Stretch
   L = stretchesOf H f
+
+  abbrev r : Record
+  r = recordOf room H f
 
   pub recordOf-whole : length (recordOf room H f .places) ≡ 64
   unfolding recordOf
   recordOf-whole = simp (length-append, length-replicate) (omega arith)
 
-  used-of : used (recordOf room H f) ≡ newest (suc H) f
+  used-of : used r ≡ newest (suc H) f
   unfolding recordOf
   used-of = ap reverse (take-at L (replicate (64 - length L) blank) (length L) refl) ∙ reverse-reverse (newest (suc H) f)
 
-  inside-of : recordOf room H f .count ≤ length (recordOf room H f .places)
+  inside-of : r .count ≤ length (r .places)
   unfolding recordOf
   inside-of = omega (arith, recordOf-whole)
 
@@ -223,11 +260,13 @@ module _ (room H n : ℕ) (f : Pairs) (ok : (k : ℕ) → k ≤ suc H → PairOk
   unfolding recordOf
   recordOf-pairs k l = go (decLe k H)
     where
-      go : Dec (k ≤ H) → pairsAt H (recordOf room H f) k ≡ f k
+      go : Dec (k ≤ H) → pairsAt H r k ≡ f k
       go (yes b) =
-          pairsAt-low H (recordOf room H f) inside-of k b ∙ ap (λ (L : List Stretch). meaning L k) used-of
+          pairsAt-low H r inside-of k b
+          ∙ ap (λ (L : List Stretch). meaning L k) used-of
           ∙ meaning-newest (PairOk n) (pairOk-empty n) (suc H) f (λ j b. ok j (omega arith)) k (omega arith)
-      go (no b) = let e : k ≡ suc H = omega arith in ap (pairsAt H (recordOf room H f)) e ∙ pairsAt-above H (recordOf room H f) ∙ ap f (sym e)
+      go (no b) = let e : k ≡ suc H = omega arith in
+          ap (pairsAt H r) e ∙ pairsAt-above H r ∙ ap f (sym e)
 
   pub recordOf-proper : Proper H n (recordOf room H f)
   unfolding recordOf
@@ -242,9 +281,6 @@ module _ (room H n : ℕ) (f : Pairs) (ok : (k : ℕ) → k ≤ suc H → PairOk
     unused = spare;
   }
     where
-      r : Record
-      r = recordOf room H f
-
       list : ProperList (PairOk n) (suc H) (used r)
       list = rw used-of (newest-proper (PairOk n) (suc H) f (λ j b. ok j (omega arith)))
 

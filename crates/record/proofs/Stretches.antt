@@ -25,9 +25,12 @@ pub pair-ext : (p q : Pair) → p .sure ≡ q .sure → p .possible ≡ q .possi
 pair-ext p q s e = λ i. record { sure = s i; possible = e i }
 
 pub samePair-iff : (p q : Pair) → Is (samePair p q) ↔ (p ≡ q)
-samePair-iff p q =
-    Iff·trans (and-iff (eqb (p .sure) (q .sure)) (eqb (p .possible) (q .possible)) (eqb-iff (p .sure) (q .sure)) (eqb-iff (p .possible) (q .possible)))
+samePair-iff p q = Iff·trans masks
     ((λ h. pair-ext p q (h .0) (h .1)), λ e. (ap (λ (x : Pair). x .sure) e, ap (λ (x : Pair). x .possible) e))
+  where
+    masks : Is (samePair p q) ↔ ((p .sure ≡ q .sure) × (p .possible ≡ q .possible))
+    masks = and-iff (eqb (p .sure) (q .sure)) (eqb (p .possible) (q .possible))
+        (eqb-iff (p .sure) (q .sure)) (eqb-iff (p .possible) (q .possible))
 
 pub touches-iff : (x : Stretch) (a : ℕ) (p : Pair) → Is (touches x a p) ↔ ((suc (x .last) ≡ a) × (x .pair ≡ p))
 unfolding touches
@@ -69,20 +72,30 @@ push-push L a b p = go (eqb (p .possible) 0)
 module _ (f : Pairs) where
   pub newest-run : (a b : ℕ) (p : Pair) → a ≤ b → ((k : ℕ) → a ≤ k → k ≤ b → f k ≡ p) → newest (suc b) f ≡ push (newest a f) a b p
   unfolding newest
-  newest-run a b p l h = le-ind (λ (m : ℕ). ((k : ℕ) → a ≤ k → k ≤ m → f k ≡ p) → newest (suc m) f ≡ push (newest a f) a m p)
-      (λ h. ap (push (newest a f) a a) (h a (le-refl a) (le-refl a)))
-      (λ m l ih h. ap₂ (λ (L : List Stretch) (p : Pair). push L (suc m) (suc m) p) (ih (λ k c d. h k c (omega arith))) (h (suc m) (omega arith) (omega arith)) ∙ push-push (newest a f) a m p)
-      b l h
+  newest-run a b p l h = le-ind To (λ h. ap (push (newest a f) a a) (h a (le-refl a) (le-refl a))) next b l h
+    where
+      To : ℕ → Type 0
+      To m = ((k : ℕ) → a ≤ k → k ≤ m → f k ≡ p) → newest (suc m) f ≡ push (newest a f) a m p
+
+      next : (m : ℕ) → a ≤ m → To m → To (suc m)
+      next m l ih h =
+          ap₂ (λ (L : List Stretch) (q : Pair). push L (suc m) (suc m) q)
+          (ih (λ k c d. h k c (omega arith))) (h (suc m) (omega arith) (le-refl (suc m)))
+          ∙ push-push (newest a f) a m p
 
   pub newest-skip : (a b : ℕ) → a ≤ b → ((k : ℕ) → a ≤ k → k < b → f k .possible ≡ 0) → newest b f ≡ newest a f
   unfolding newest
   newest-skip a b l h = le-ind (λ (m : ℕ). ((k : ℕ) → a ≤ k → k < m → f k .possible ≡ 0) → newest m f ≡ newest a f)
-      (λ h. refl) (λ m l ih h. push-none (newest m f) m m (f m) (h m l (omega arith)) ∙ ih (λ k c d. h k c (omega arith))) b l h
+      (λ h. refl)
+      (λ m l ih h. push-none (newest m f) m m (f m) (h m l (omega arith)) ∙ ih (λ k c d. h k c (omega arith)))
+      b l h
 
 pub newest-cong : (n : ℕ) (f g : Pairs) → ((k : ℕ) → k < n → f k ≡ g k) → newest n f ≡ newest n g
 unfolding newest
 newest-cong zero f g h = refl
-newest-cong (suc n) f g h = ap₂ (λ (L : List Stretch) (p : Pair). push L n n p) (newest-cong n f g (λ k l. h k (omega arith))) (h n (omega arith))
+newest-cong (suc n) f g h = ap₂ (λ (L : List Stretch) (p : Pair). push L n n p)
+    (newest-cong n f g (λ k l. h k (omega arith)))
+    (h n (omega arith))
 
 -- ---- more ages never need fewer stretches
 
@@ -117,7 +130,8 @@ pub meaning-in : (x : Stretch) (xs : List Stretch) (k : ℕ) → x .first ≤ k 
 unfolding meaning
 meaning-in x xs k l h = ap (λ (t : Bool). cond t (x .pair) (meaning xs k)) (is-true (inside x k) (inside-iff x k .1 (l, h)))
 
-pub meaning-out : (x : Stretch) (xs : List Stretch) (k : ℕ) → ¬ ((x .first ≤ k) × (k ≤ x .last)) → meaning (x ∷ xs) k ≡ meaning xs k
+pub meaning-out : (x : Stretch) (xs : List Stretch) (k : ℕ) → ¬ ((x .first ≤ k) × (k ≤ x .last))
+    → meaning (x ∷ xs) k ≡ meaning xs k
 unfolding meaning
 meaning-out x xs k n = ap (λ (t : Bool). cond t (x .pair) (meaning xs k)) (is-false (inside x k) (λ h. n (inside-iff x k .0 h)))
 
@@ -143,12 +157,13 @@ module _ (P : Pair → Type 0) where
   pub meaning-above : (L : List Stretch) (b k : ℕ) → ProperList b L → b ≤ k → meaning L k ≡ noPair
   unfolding meaning
   meaning-above [] b k h l = refl
-  meaning-above (x ∷ xs) b k h l = meaning-out x xs k (λ i. omega (arith, h .0 .below)) ∙ meaning-above xs (x .first) k (h .2) (omega (arith, h .0 .below, h .0 .order))
+  meaning-above (x ∷ xs) b k h l =
+      meaning-out x xs k (λ i. omega (arith, h .0 .below))
+      ∙ meaning-above xs (x .first) k (h .2) (omega (arith, h .0 .below, h .0 .order))
 
   pub put-apart : (x : Stretch) (xs : List Stretch) → Apart x xs → put xs (x .first) (x .last) (x .pair) ≡ x ∷ xs
   put-apart x [] h = refl
-  put-apart x (y ∷ ys) h =
-      ap (λ (t : Bool). putIf t y ys (x .first) (x .last) (x .pair))
+  put-apart x (y ∷ ys) h = ap (λ (t : Bool). putIf t y ys (x .first) (x .last) (x .pair))
       (is-false (touches y (x .first) (x .pair)) (λ t. let e = touches-iff y (x .first) (x .pair) .0 t in h (e .0) (e .1)))
 
   -- a proper list is the list of the stretches of its meaning
@@ -160,12 +175,20 @@ module _ (P : Pair → Type 0) where
       f : Pairs
       f = meaning (x ∷ xs)
 
+      -- above x there is nothing, and below it what xs say
+      above : (k : ℕ) → suc (x .last) ≤ k → f k ≡ noPair
+      above k l =
+          meaning-out x xs k (λ i. omega arith)
+          ∙ meaning-above xs (x .first) k (h .2) (omega (arith, h .0 .order))
+
+      below : newest (x .first) f ≡ newest (x .first) (meaning xs)
+      below = newest-cong (x .first) f (meaning xs) (λ k l. meaning-out x xs k (λ i. omega arith))
+
       steps : newest (x .first) (meaning xs) ≡ xs → newest b f ≡ x ∷ xs
       steps ih =
-          newest-skip f (suc (x .last)) b (h .0 .below)
-          (λ k l u. ap (λ (p : Pair). p .possible) (meaning-out x xs k (λ i. omega arith) ∙ meaning-above xs (x .first) k (h .2) (omega (arith, h .0 .order))))
+          newest-skip f (suc (x .last)) b (h .0 .below) (λ k l u. ap (λ (p : Pair). p .possible) (above k l))
           ∙ newest-run f (x .first) (x .last) (x .pair) (h .0 .order) (λ k l u. meaning-in x xs k l u)
-          ∙ ap (λ (L : List Stretch). push L (x .first) (x .last) (x .pair)) (newest-cong (x .first) f (meaning xs) (λ k l. meaning-out x xs k (λ i. omega arith)) ∙ ih)
+          ∙ ap (λ (L : List Stretch). push L (x .first) (x .last) (x .pair)) (below ∙ ih)
           ∙ push-some xs (x .first) (x .last) (x .pair) (h .0 .some)
           ∙ put-apart x xs (h .1)
 
@@ -173,20 +196,26 @@ module _ (P : Pair → Type 0) where
 
   proper-le : (L : List Stretch) {a b : ℕ} → a ≤ b → ProperList a L → ProperList b L
   proper-le [] l h = tt
-  proper-le (x ∷ xs) l h = (record { pair = h .0 .pair; below = omega (arith, h .0 .below); order = h .0 .order; some = h .0 .some }, h .1, h .2)
+  proper-le (x ∷ xs) l (g, a, h) =
+      (record { pair = g .pair; below = omega (arith, g .below); order = g .order; some = g .some }, a, h)
 
   apart-as : (x z : Stretch) (xs : List Stretch) → x .first ≡ z .first → x .pair ≡ z .pair → Apart x xs → Apart z xs
   apart-as x z [] e p h = tt
   apart-as x z (y ∷ ys) e p h = λ c q. h (c ∙ sym e) (q ∙ sym p)
 
-  put-proper : (L : List Stretch) (a b : ℕ) (p : Pair) → a ≤ b → P p → p .possible ≢ 0 → ProperList a L → ProperList (suc b) (put L a b p)
+  put-proper : (L : List Stretch) (a b : ℕ) (p : Pair) → a ≤ b → P p → p .possible ≢ 0 → ProperList a L
+      → ProperList (suc b) (put L a b p)
   put-proper [] a b p l o n h = (record { pair = o; below = le-refl (suc b); order = l; some = n }, tt, tt)
   put-proper (x ∷ xs) a b p l o n h = go (touches x a p) refl
     where
+      good : (c : ℕ) → c ≤ b → Good (suc b) (stretch c b p)
+      good c l = record { pair = o; below = le-refl (suc b); order = l; some = n }
+
       go : (t : Bool) → touches x a p ≡ t → ProperList (suc b) (putIf t x xs a b p)
       go true e = let k = touches-iff x a p .0 (subst Is (sym e) tt) in
-          (record { pair = o; below = le-refl (suc b); order = omega (arith, h .0 .below, h .0 .order); some = n }, apart-as x (stretch (x .first) b p) xs refl (k .1) (h .1), h .2)
-      go false e = (record { pair = o; below = le-refl (suc b); order = l; some = n }, (λ c q. subst Is e (touches-iff x a p .1 (c, q))), h)
+          let low : x .first ≤ b = omega (arith, h .0 .below, h .0 .order) in
+          (good (x .first) low, apart-as x (stretch (x .first) b p) xs refl (k .1) (h .1), h .2)
+      go false e = (good a l, (λ c q. subst Is e (touches-iff x a p .1 (c, q))), h)
 
   push-proper : (L : List Stretch) (a b : ℕ) (p : Pair) → a ≤ b → P p → ProperList a L → ProperList (suc b) (push L a b p)
   push-proper L a b p l o h = go (ℕ-discrete (p .possible) 0)
@@ -198,7 +227,9 @@ module _ (P : Pair → Type 0) where
   pub newest-proper : (n : ℕ) (f : Pairs) → ((k : ℕ) → k < n → P (f k)) → ProperList n (newest n f)
   unfolding newest
   newest-proper zero f o = tt
-  newest-proper (suc n) f o = push-proper (newest n f) n n (f n) (le-refl n) (o n (omega arith)) (newest-proper n f (λ k l. o k (omega arith)))
+  newest-proper (suc n) f o = push-proper (newest n f) n n (f n) (le-refl n)
+      (o n (omega arith))
+      (newest-proper n f (λ k l. o k (omega arith)))
 
   -- ---- the list of f says f, where a pair with nothing possible is the pair of two empty sets
 
@@ -210,7 +241,8 @@ module _ (P : Pair → Type 0) where
       go true = meaning-in (stretch (x .first) b p) xs k (omega (arith, h .0 .below, h .0 .order)) u
       go false = meaning-in (stretch a b p) (x ∷ xs) k l u
 
-  put-below : (L : List Stretch) (a b : ℕ) (p : Pair) → a ≤ b → ProperList a L → (k : ℕ) → k < a → meaning (put L a b p) k ≡ meaning L k
+  put-below : (L : List Stretch) (a b : ℕ) (p : Pair) → a ≤ b → ProperList a L
+      → (k : ℕ) → k < a → meaning (put L a b p) k ≡ meaning L k
   put-below [] a b p ab h k l = meaning-out (stretch a b p) [] k (λ i. omega arith)
   put-below (x ∷ xs) a b p ab h k l = go (touches x a p) refl
     where
@@ -218,15 +250,19 @@ module _ (P : Pair → Type 0) where
       go false e = meaning-out (stretch a b p) (x ∷ xs) k (λ i. omega arith)
       go true e = low (touches-iff x a p .0 (subst Is (sym e) tt)) (decLe (x .first) k)
         where
-          low : (suc (x .last) ≡ a) × (x .pair ≡ p) → Dec (x .first ≤ k) → meaning (stretch (x .first) b p ∷ xs) k ≡ meaning (x ∷ xs) k
-          low t (yes c) = meaning-in (stretch (x .first) b p) xs k c (omega arith) ∙ sym (t .1) ∙ sym (meaning-in x xs k c (omega arith))
-          low t (no c) = meaning-out (stretch (x .first) b p) xs k (λ i. c (i .0)) ∙ sym (meaning-out x xs k (λ i. c (i .0)))
+          y : Stretch
+          y = stretch (x .first) b p
+
+          low : (suc (x .last) ≡ a) × (x .pair ≡ p) → Dec (x .first ≤ k) → meaning (y ∷ xs) k ≡ meaning (x ∷ xs) k
+          low t (yes c) = meaning-in y xs k c (omega arith) ∙ sym (t .1) ∙ sym (meaning-in x xs k c (omega arith))
+          low t (no c) = meaning-out y xs k (λ i. c (i .0)) ∙ sym (meaning-out x xs k (λ i. c (i .0)))
 
   module _ (empty : (p : Pair) → P p → p .possible ≡ 0 → p ≡ noPair) where
     pub meaning-newest : (n : ℕ) (f : Pairs) → ((k : ℕ) → k < n → P (f k)) → (k : ℕ) → k < n → meaning (newest n f) k ≡ f k
     unfolding newest
     meaning-newest zero f h k l = absurd (let z : ⊥ = omega arith in z)
-    meaning-newest (suc n) f h k l = go (ℕ-discrete (f n .possible) 0) (ℕ-discrete k n) (meaning-newest n f (λ j b. h j (omega arith)) k)
+    meaning-newest (suc n) f h k l = go (ℕ-discrete (f n .possible) 0) (ℕ-discrete k n)
+        (meaning-newest n f (λ j b. h j (omega arith)) k)
       where
         L : List Stretch
         L = newest n f
@@ -235,7 +271,14 @@ module _ (P : Pair → Type 0) where
         proper = newest-proper n f (λ j b. h j (omega arith))
 
         go : Dec (f n .possible ≡ 0) → Dec (k ≡ n) → (k < n → meaning L k ≡ f k) → meaning (push L n n (f n)) k ≡ f k
-        go (yes e) (yes d) ih = rw (push-none L n n (f n) e) (meaning-above L n k proper (omega arith) ∙ sym (empty (f n) (h n (omega arith)) e) ∙ ap f (sym d))
+        go (yes e) (yes d) ih = rw (push-none L n n (f n) e) (
+            meaning-above L n k proper (omega arith)
+            ∙ sym (empty (f n) (h n (omega arith)) e)
+            ∙ ap f (sym d))
         go (yes e) (no d) ih = rw (push-none L n n (f n) e) (ih (omega arith))
-        go (no c) (yes d) ih = rw (push-some L n n (f n) c) (put-in L n n (f n) proper k (omega arith) (omega arith) ∙ ap f (sym d))
-        go (no c) (no d) ih = rw (push-some L n n (f n) c) (put-below L n n (f n) (le-refl n) proper k (omega arith) ∙ ih (omega arith))
+        go (no c) (yes d) ih = rw (push-some L n n (f n) c) (
+            put-in L n n (f n) proper k (omega arith) (omega arith)
+            ∙ ap f (sym d))
+        go (no c) (no d) ih = rw (push-some L n n (f n) c) (
+            put-below L n n (f n) (le-refl n) proper k (omega arith)
+            ∙ ih (omega arith))

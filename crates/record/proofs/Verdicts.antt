@@ -1,13 +1,12 @@
--- What the verdict and `settled` say of the two sets that the pairs stand for (`verdict-yes`, `verdict-no`, `settled-same`). Hence
--- demand 2, for what has become of a start's pairs (`start-yes`, `start-no`), and demand 3, for what has become of a gap's,
--- said of every set that may have stood at its end (`gap-yes`, `gap-no`, `gap-unsure`, `gap-settled`). Assumes nothing.
-use Prim.Native.Nat.{ℕ, zero, suc, _≤_, _<_}
-use mathlib.Core.Path.{_≡_, refl, sym, ap, _∙_, subst}
-use mathlib.Core.Logic.{_↔_, _⊎_, inl, inr, _≢_, ⊎-elim, Iff·trans, Iff·symm, Iff·not, Iff·and}
-use mathlib.Core.Bool.{Bool, true, false, _&&_, not}
+-- What the verdict and `settled` say of the two sets that the pairs stand for (`verdict-yes`, `verdict-no`, `settled-same`).
+-- Hence demand 2, for what has become of a start's pairs (`start-yes`, `start-no`), and demand 3, for what has become of a
+-- gap's, said of every set that may have stood at its end (`gap-yes`, `gap-no`, `gap-unsure`, `gap-settled`). Assumes nothing.
+use Prim.Native.Nat.{ℕ, suc}
+use mathlib.Core.Path.{_≡_, refl, ap}
+use mathlib.Core.Logic.{_↔_, _≢_, Iff·trans, Iff·symm, Iff·not, Iff·and}
+use mathlib.Core.Bool.{Bool, true, false}
 use native.Mathlib.Omega.{arith}
 use lib.Dec.{T as Is, eqb}
-use Rattle.base.specs.Masks.{all}
 use Rattle.base.proofs.Tests.{eqb-iff, all-iff}
 use Rattle.meaning.specs.Tables.{Table, horizon}
 use Rattle.meaning.specs.Runs.{Word, Accepted}
@@ -16,8 +15,8 @@ use Rattle.meaning.specs.Ages.{acceptsAt}
 use Rattle.meaning.proofs.Runs.{accepted-iff}
 use Rattle.meaning.proofs.Sets.{accepts-mono, yes-iff, no-iff, settled-iff}
 use Rattle.meaning.proofs.Ages.{accepts-stands, settled-stands}
-use Rattle.record.specs.declared.Pair.{Pair}
-use Rattle.record.specs.Pairs.{Pairs, sures, possibles, startPairs, gapPairs, afterPairs, Verdict, says-yes, says-no, unsure, decide, verdictAt, settledAt}
+use Rattle.record.specs.Pairs.{Pairs, sures, possibles, startPairs, gapPairs, afterPairs}
+use Rattle.record.specs.Verdicts.{Verdict, says-yes, says-no, unsure, decide, verdictAt, settledAt}
 use Rattle.record.proofs.Pairs.{Stands, start-stands, gap-stands, after-stand}
 
 -- the three verdicts are three
@@ -49,25 +48,31 @@ unsure-iff says-no = ((λ e. absurd (differ says-no unsure (λ z. omega arith) e
 unsure-iff unsure = ((λ e. (differ unsure says-yes (λ z. omega arith), differ unsure says-no (λ z. omega arith))), λ h. refl)
 
 module _ (T : Table) (f : Pairs) (A B : Confs) (s : Stands T f A B) where
+  sure : Is (acceptsAt T (sures f)) ↔ Accepts T A
+  sure = accepts-stands T (sures f) A (s .sure)
+
+  possible : Is (acceptsAt T (possibles f)) ↔ Accepts T B
+  possible = accepts-stands T (possibles f) B (s .possible)
+
   pub verdict-yes : (verdictAt T f ≡ says-yes) ↔ Accepts T A
   unfolding verdictAt
-  verdict-yes = Iff·trans (decide-yes (acceptsAt T (sures f)) (acceptsAt T (possibles f))) (accepts-stands T (sures f) A (s .sure))
+  verdict-yes = Iff·trans (decide-yes (acceptsAt T (sures f)) (acceptsAt T (possibles f))) sure
 
   pub verdict-no : (verdictAt T f ≡ says-no) ↔ (¬ Accepts T B)
   unfolding verdictAt
-  verdict-no = Iff·trans (decide-no (acceptsAt T (sures f)) (acceptsAt T (possibles f)) (λ h. possible .1 (accepts-mono T A B (s .within) (sure .0 h)))) (Iff·not possible)
+  verdict-no = Iff·trans (decide-no (acceptsAt T (sures f)) (acceptsAt T (possibles f)) sure-possible) (Iff·not possible)
     where
-      sure : Is (acceptsAt T (sures f)) ↔ Accepts T A
-      sure = accepts-stands T (sures f) A (s .sure)
-
-      possible : Is (acceptsAt T (possibles f)) ↔ Accepts T B
-      possible = accepts-stands T (possibles f) B (s .possible)
+      sure-possible : Is (acceptsAt T (sures f)) → Is (acceptsAt T (possibles f))
+      sure-possible h = possible .1 (accepts-mono T A B (s .within) (sure .0 h))
 
   pub settled-same : Is (settledAt T f) ↔ Same (horizon T) A B
   unfolding settledAt
   settled-same = Iff·trans (all-iff (suc (suc (horizon T))) (λ k. eqb (f k .sure) (f k .possible)))
-      (Iff·trans ((λ h k l. eqb-iff (f k .sure) (f k .possible) .0 (h k (omega arith))), λ h k l. eqb-iff (f k .sure) (f k .possible) .1 (h k (omega arith)))
+      (Iff·trans ((λ h k l. one k .0 (h k (omega arith))), λ h k l. one k .1 (h k (omega arith)))
       (settled-stands (horizon T) (sures f) (possibles f) A B (s .sure) (s .possible)))
+    where
+      one : (k : ℕ) → Is (eqb (f k .sure) (f k .possible)) ↔ (f k .sure ≡ f k .possible)
+      one k = eqb-iff (f k .sure) (f k .possible)
 
 module _ (T : Table) (w : Word) where
   -- ---- demand 2: with no gap since the start
@@ -75,16 +80,19 @@ module _ (T : Table) (w : Word) where
   abbrev pub sinceStart : Pairs
   sinceStart = afterPairs T (startPairs T) w
 
-  after-start : Stands T sinceStart (after T (Initial T) w) (after T (Initial T) w)
+  abbrev startSet : Confs
+  startSet = after T (Initial T) w
+
+  after-start : Stands T sinceStart startSet startSet
   after-start = after-stand T (startPairs T) (Initial T) (Initial T) (start-stands T) w
 
   -- yes exactly when some accepting run exists over the symbols
   pub start-yes : (verdictAt T sinceStart ≡ says-yes) ↔ Accepted T w
-  start-yes = Iff·trans (verdict-yes T sinceStart (after T (Initial T) w) (after T (Initial T) w) after-start) (Iff·symm (accepted-iff T w))
+  start-yes = Iff·trans (verdict-yes T sinceStart startSet startSet after-start) (Iff·symm (accepted-iff T w))
 
   -- otherwise no
   pub start-no : (verdictAt T sinceStart ≡ says-no) ↔ (¬ Accepted T w)
-  start-no = Iff·trans (verdict-no T sinceStart (after T (Initial T) w) (after T (Initial T) w) after-start) (Iff·not (Iff·symm (accepted-iff T w)))
+  start-no = Iff·trans (verdict-no T sinceStart startSet startSet after-start) (Iff·not (Iff·symm (accepted-iff T w)))
 
   -- never unsure
   pub start-sure : verdictAt T sinceStart ≢ unsure
@@ -95,16 +103,23 @@ module _ (T : Table) (w : Word) where
   abbrev pub sinceGap : Pairs
   sinceGap = afterPairs T (gapPairs T) w
 
-  after-gap : Stands T sinceGap (after T Nothing w) (after T (Everything T) w)
+  -- the two sets between which those of all sets S lie
+  abbrev least : Confs
+  least = after T Nothing w
+
+  abbrev greatest : Confs
+  greatest = after T (Everything T) w
+
+  after-gap : Stands T sinceGap least greatest
   after-gap = after-stand T (gapPairs T) Nothing (Everything T) (gap-stands T) w
 
   -- yes exactly if the symbols since lead to acceptance from every such set
   pub gap-yes : (verdictAt T sinceGap ≡ says-yes) ↔ ((S : Confs) → Over T S → Accepts T (after T S w))
-  gap-yes = Iff·trans (verdict-yes T sinceGap (after T Nothing w) (after T (Everything T) w) after-gap) (Iff·symm (yes-iff T w))
+  gap-yes = Iff·trans (verdict-yes T sinceGap least greatest after-gap) (Iff·symm (yes-iff T w))
 
   -- no exactly if from none
   pub gap-no : (verdictAt T sinceGap ≡ says-no) ↔ ((S : Confs) → Over T S → ¬ Accepts T (after T S w))
-  gap-no = Iff·trans (verdict-no T sinceGap (after T Nothing w) (after T (Everything T) w) after-gap) (Iff·symm (no-iff T w))
+  gap-no = Iff·trans (verdict-no T sinceGap least greatest after-gap) (Iff·symm (no-iff T w))
 
   -- unsure otherwise
   pub gap-unsure : (verdictAt T sinceGap ≡ unsure)
@@ -112,10 +127,11 @@ module _ (T : Table) (w : Word) where
   gap-unsure = Iff·trans (unsure-iff (verdictAt T sinceGap)) (Iff·and (Iff·not gap-yes) (Iff·not gap-no))
 
   -- settled exactly if all those sets led to one and the same set, ages beyond the horizon counted as one
-  pub gap-settled : Is (settledAt T sinceGap) ↔ ((R S : Confs) → Over T R → Over T S → Same (horizon T) (after T R w) (after T S w))
-  gap-settled = Iff·trans (settled-same T sinceGap (after T Nothing w) (after T (Everything T) w) after-gap) (Iff·symm (settled-iff T (horizon T) w))
+  pub gap-settled : Is (settledAt T sinceGap)
+      ↔ ((R S : Confs) → Over T R → Over T S → Same (horizon T) (after T R w) (after T S w))
+  gap-settled = Iff·trans (settled-same T sinceGap least greatest after-gap) (Iff·symm (settled-iff T (horizon T) w))
 
   -- with no gap the two sets are one: always settled
   pub start-settled : Is (settledAt T sinceStart)
-  start-settled = settled-same T sinceStart (after T (Initial T) w) (after T (Initial T) w) after-start .1
+  start-settled = settled-same T sinceStart startSet startSet after-start .1
       (record { low = λ q t l. ((λ h. h), λ h. h); beyond = λ q. ((λ h. h), λ h. h) })

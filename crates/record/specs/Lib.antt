@@ -1,3 +1,4 @@
 pub mod Pairs
+pub mod Verdicts
 pub mod Stretches
 pub mod Records

@@ -1,12 +1,9 @@
 -- The two sets that the watch carries, age by age: a pair, sure and possible, for each age 0 to H, and one for all ages
 -- above H, kept at the age H + 1 (document 01, Configurations and steps; The record). Assumes nothing: these are definitions.
-use Prim.Native.Nat.{ℕ, zero, suc}
-use mathlib.Core.Bool.{Bool, true, false}
-use lib.Dec.{eqb}
-use Rattle.base.specs.Masks.{all}
-use Rattle.meaning.specs.Tables.{Table, horizon}
+use Prim.Native.Nat.{ℕ}
+use Rattle.meaning.specs.Tables.{Table}
 use Rattle.meaning.specs.Runs.{Symbol, Word, empty, _▷_}
-use Rattle.meaning.specs.Ages.{stepAt, initialAt, nothingAt, everythingAt, acceptsAt}
+use Rattle.meaning.specs.Ages.{stepAt, initialAt, nothingAt, everythingAt}
 use Rattle.record.specs.declared.Pair.{Pair}
 
 -- the pair of each age
@@ -39,21 +36,3 @@ stepPairs T x f k = record { sure = stepAt T x (sures f) k; possible = stepAt T 
 unfoldable pub afterPairs : Table → Pairs → Word → Pairs
 afterPairs T f empty = f
 afterPairs T f (w ▷ x) = stepPairs T x (afterPairs T f w)
-
-pub data Verdict : Type 0 where
-  says-yes : Verdict
-  says-no : Verdict
-  unsure : Verdict
-
--- "yes if the sure set accepts; no if the possible set doesn't; unsure otherwise", of what the two sets do
-abbrev pub decide : Bool → Bool → Verdict
-decide true p = says-yes
-decide false false = says-no
-decide false true = unsure
-
-unfoldable pub verdictAt : Table → Pairs → Verdict
-verdictAt T f = decide (acceptsAt T (sures f)) (acceptsAt T (possibles f))
-
--- "Settled: the two sets are equal, all ages above H taken as one."
-unfoldable pub settledAt : Table → Pairs → Bool
-settledAt T f = all (suc (suc (horizon T))) (λ k. eqb (f k .sure) (f k .possible))

@@ -95,7 +95,14 @@ blankb x = eqb (x .first) 0 && eqb (x .last) 0 && samePair (x .pair) noPair
 
 -- place i: in use it is held and follows the one before it, if there is one; otherwise it is zero
 unfoldable pub placeOkb : ℕ → ℕ → Record → ℕ → Bool
-placeOkb H n r i = cond (ltb i (r .count)) (heldb H n (place r i) && (eqb i 0 || followsb (place r (i - 1)) (place r i))) (blankb (place r i))
+placeOkb H n r i =
+    cond (ltb i (r .count))
+    (heldb H n (place r i) && (eqb i 0 || followsb (place r (i - 1)) (place r i)))
+    (blankb (place r i))
 
 unfoldable pub properb : ℕ → ℕ → Record → Bool
-properb H n r = leb 1 (r .room) && leb (r .room) 64 && leb (r .count) (r .room) && all 64 (placeOkb H n r) && pairOkb n (r .above)
+properb H n r =
+    leb 1 (r .room) && leb (r .room) 64
+    && leb (r .count) (r .room)
+    && all 64 (placeOkb H n r)
+    && pairOkb n (r .above)
