@@ -83,6 +83,31 @@ fn the_example_is_this_session() {
     assert_eq!(shown("examples/board.lines"), OUTPUT);
 }
 
+/// Its lines were worked out by hand; the definitions of the library give the same.
+#[test]
+fn the_pump_and_its_lines() {
+    let pump = bytes(&shown("examples/pump.hex"));
+    assert_eq!(printed(&pump), shown("examples/pump.lines"));
+}
+
+/// With room 2 its eighth entry, which needs three stretches, is refused, and the session goes on.
+#[test]
+fn the_pump_in_room_2() {
+    let mut pump = bytes(&shown("examples/pump.hex"));
+    pump[1] = 2;
+    let lines = printed(&pump);
+    let lines: Vec<&str> = lines.lines().skip(7).take(4).collect();
+    assert_eq!(
+        lines,
+        [
+            "7 yes settled 2",
+            "8 refused 11",
+            "9 yes settled 2",
+            "10 yes settled 1",
+        ]
+    );
+}
+
 #[test]
 fn the_readme_shows_this_session() {
     let readme = shown("README.md");

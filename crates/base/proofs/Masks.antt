@@ -1,12 +1,12 @@
 -- Sets of states: two masks with the same states are the same mask (`ext-has`), and which states a mask made of others has
 -- (`has-or`, `has-and`, `has-bit`, `has-full`, `has-pick`, `has-cond`, `has-union`). Then: below 2 ^ n, parts, the empty mask,
--- the tests `hasb` and `m / 2 ^ i % 2`, and the largest of some numbers, `le-most` and `most-le`. Assumes nothing.
+-- the tests `hasb` and `m / 2 ^ i % 2`, and the largest of some numbers, `le-most`, `most-le` and `most-attained`. Assumes nothing.
 use Prim.Native.Nat.{ℕ, zero, suc, _-_, _/_, _%_, _^_, _≤_, _<_, suc-le-suc, min, max}
 use mathlib.Core.Path.{_≡_, refl, sym, ap, _∙_, subst}
 use mathlib.Core.Logic.{_↔_, _⊎_, inl, inr, _≢_, ⊎-elim, Iff·rfl}
 use mathlib.Core.Bool.{Bool, true, false, cond, not}
 use native.Mathlib.Nat.{pow-suc, not-suc-le-zero, suc-inj, div-one, pow-succ', div-div-eq-div-mul}
-use native.Mathlib.Decide.{ℕ-discrete}
+use native.Mathlib.Decide.{ℕ-discrete, decLe}
 use native.Mathlib.Omega.{arith}
 use lib.Arith.{digits-mod, lt-one, bin-ind}
 use lib.Bits.{bitOr, bitAnd, or-step, and-step, or-shr, and-shr}
@@ -200,3 +200,17 @@ pub most-le : (n : ℕ) (f : ℕ → ℕ) (c : ℕ) → ((i : ℕ) → i < n →
 unfolding most
 most-le zero f c h = omega arith
 most-le (suc n) f c h = omega (arith, most-le n f c (λ i l. h i (omega arith)), h n (omega arith))
+
+-- the largest is one of them, where it is not 0
+pub most-attained : (n : ℕ) (f : ℕ → ℕ) → (most n f ≡ 0) ⊎ ((i : ℕ) × (i < n) × (f i ≡ most n f))
+unfolding most
+most-attained zero f = inl refl
+most-attained (suc n) f = go (decLe (f n) (most n f)) (most-attained n f)
+  where
+    Attained : ℕ → ℕ → Type 0
+    Attained m top = (top ≡ 0) ⊎ ((i : ℕ) × (i < m) × (f i ≡ top))
+
+    go : Dec (f n ≤ most n f) → Attained n (most n f) → Attained (suc n) (max (most n f) (f n))
+    go (yes l) (inl e) = inl (omega arith)
+    go (yes l) (inr (i, b, e)) = inr (i, omega arith, omega arith)
+    go (no d) h = inr (n, omega arith, omega arith)

@@ -1,5 +1,5 @@
--- The definitions at work, by computation: the session of document 01, One session, whole, with room 4 and with room 1, and
--- both sides of the edges of the calls (Both sides of each edge). Assumes nothing.
+-- The definitions at work, by computation: the session of document 01, One session, whole, with room 4 and with room 1, a
+-- session of another table, and both sides of the edges of the calls (Both sides of each edge). Assumes nothing.
 use Prim.Native.Nat.{ℕ, zero, suc}
 use mathlib.Core.Path.{_≡_, refl}
 use mathlib.Core.List.{List, [], _∷_, map}
@@ -10,21 +10,22 @@ use Rattle.base.specs.Checks.{firstOf}
 use Rattle.table.specs.Table.{headOf, lineAt}
 use Rattle.table.proofs.Cases.{board-table}
 use Rattle.meaning.specs.Tables.{tableOf, horizon, acceptingAt}
-use Rattle.meaning.specs.Ages.{image, freshAt, letterAt, spanAt, stepAt, acceptsAt}
+use Rattle.meaning.proofs.Cases.{pump-table}
+use Rattle.meaning.specs.Ages.{image, freshAt, letterAt, passedAt, spanAt, stepAt, acceptsAt}
 use Rattle.faults.specs.Faults.{badCounts, badLength, badMasks, badParts, badAges, lineFault, tableFault}
 use Rattle.record.specs.declared.Pair.{Pair}
 use Rattle.record.specs.declared.Record.{Record}
 use Rattle.record.specs.Pairs.{noPair, startPairs, gapPairs, stepPairs}
 use Rattle.record.specs.Verdicts.{Verdict, says-yes, says-no, unsure, verdictAt, settledAt}
 use Rattle.record.specs.Stretches.{stretch, touches, push, newest}
-use Rattle.record.specs.Records.{blankRecord, inside, pairIn, pairsAt, recordOf, pairOkb, heldb, followsb, blankb, placeOkb, properb}
+use Rattle.record.specs.Records.{blankRecord, inside, pairIn, pairsAt, recordOf, pairOkb, stretchOkb, followsb, blankb, placeOkb, properb}
 use Rattle.record.proofs.Cases.{made}
 use Rattle.calls.specs.declared.Answer.{Answer}
 use Rattle.calls.specs.Calls.{startFault, recordFault, letterFault, spanFault, startOf, letterOf, spanOf, gapOf, Reply, refused, told, verdictOf, settledOf, countOf}
 
 -- ---- a session
 
--- an entry of a session, and the line that it earns: verdict, settled, count, or the number of a refusal
+-- an entry of a session without its ordinal, and the line that it earns: verdict, settled, count, or the number of a refusal
 pub data Entry : Type 0 where
   letter : ℕ → Entry
   span : ℕ → Entry
@@ -58,7 +59,7 @@ settled v n = line (told v) (told true) (told n)
 unfoldable pub left-open : Verdict → ℕ → Shown
 left-open v n = line (told v) (told false) (told n)
 
--- its twelve lines; and "with room 1, entry 3 answers `3 refused 11` and the record is that of entry 2", from where it goes on
+-- its twelve lines; and with room 1, where "entry 3 answers `3 refused 11`" and the session goes on
 pub the-session :
     (lines board-table (startOf board-table 4) entries
     ≡ settled says-no 1 ∷ settled says-yes 1 ∷ settled says-yes 1 ∷ settled says-yes 2 ∷ settled says-yes 1 ∷ settled says-no 1
@@ -67,11 +68,37 @@ pub the-session :
     ≡ settled says-no 1 ∷ settled says-yes 1 ∷ settled says-yes 1 ∷ number 11 ∷ settled says-yes 0 ∷ settled says-no 1
     ∷ left-open unsure 1 ∷ number 11 ∷ left-open unsure 1 ∷ left-open unsure 1 ∷ number 10 ∷ number 9 ∷ [])
 unfolding lines shown call entries settled left-open startFault recordFault letterFault spanFault startOf letterOf
-    spanOf gapOf verdictOf settledOf countOf inside pairIn pairsAt recordOf pairOkb heldb followsb blankb placeOkb
+    spanOf gapOf verdictOf settledOf countOf inside pairIn pairsAt recordOf pairOkb stretchOkb followsb blankb placeOkb
     properb touches push newest startPairs gapPairs stepPairs verdictAt settledAt badCounts badLength badMasks
-    badParts badAges lineFault tableFault image freshAt letterAt spanAt stepAt acceptsAt tableOf horizon acceptingAt
+    badParts badAges lineFault tableFault image freshAt letterAt passedAt spanAt stepAt acceptsAt tableOf horizon acceptingAt
     headOf lineAt hasb union most all firstOf
 the-session = (refl, refl)
+
+-- ---- a session of the other table: examples/pump.hex, whose lines were worked out by hand
+
+-- 1 second, start, 1 second, check, 2 seconds, start, 3 seconds, check, start, 4 seconds, check, a gap, check, 3 seconds, check,
+-- start, 7 seconds, check, start, check
+unfoldable pub pumped : List Entry
+pumped =
+    span 1 ∷ letter 0 ∷ span 1 ∷ letter 1 ∷ span 2 ∷ letter 0 ∷ span 3 ∷ letter 1 ∷ letter 0 ∷ span 4 ∷ letter 1
+    ∷ gap ∷ letter 1 ∷ span 3 ∷ letter 1 ∷ letter 0 ∷ span 7 ∷ letter 1 ∷ letter 0 ∷ letter 1 ∷ []
+
+-- the whole of it; and with room 2, where entry 8 is refused and the session goes on
+pub the-pump :
+    (lines pump-table (startOf pump-table 4) pumped
+    ≡ settled says-no 1 ∷ settled says-no 1 ∷ settled says-no 1 ∷ settled says-no 1 ∷ settled says-no 1 ∷ settled says-no 1
+    ∷ settled says-yes 2 ∷ settled says-yes 2 ∷ settled says-yes 3 ∷ settled says-yes 3 ∷ settled says-yes 1 ∷ settled says-yes 2
+    ∷ left-open unsure 1 ∷ left-open unsure 2 ∷ left-open unsure 2 ∷ settled says-yes 2 ∷ settled says-yes 2 ∷ settled says-yes 0
+    ∷ settled says-yes 1 ∷ settled says-no 1 ∷ settled says-no 1 ∷ [])
+    × (lines pump-table (startOf pump-table 2) (take 10 pumped)
+    ≡ settled says-no 1 ∷ settled says-no 1 ∷ settled says-no 1 ∷ settled says-no 1 ∷ settled says-no 1 ∷ settled says-no 1
+    ∷ settled says-yes 2 ∷ settled says-yes 2 ∷ number 11 ∷ settled says-yes 2 ∷ settled says-yes 1 ∷ [])
+unfolding lines shown call pumped settled left-open startFault recordFault letterFault spanFault startOf letterOf
+    spanOf gapOf verdictOf settledOf countOf inside pairIn pairsAt recordOf pairOkb stretchOkb followsb blankb
+    placeOkb properb touches push newest startPairs gapPairs stepPairs verdictAt settledAt badCounts badLength
+    badMasks badParts badAges lineFault tableFault image freshAt letterAt passedAt spanAt stepAt acceptsAt tableOf
+    horizon acceptingAt headOf lineAt hasb union most all firstOf
+the-pump = (refl, refl)
 
 -- ---- records of the session
 
@@ -93,29 +120,29 @@ pub the-records :
     -- entry 4: fresh above H, waiting at age 1
     × (after board-table (startOf board-table 4) (letter 0 ∷ span 5 ∷ letter 1 ∷ span 1 ∷ [])
     ≡ record { number = 0; next = made 4 1 (stretch 1 1 (both 1) ∷ []) (both 2) })
-    -- entry 6, the gap: everything possible, nothing sure
+    -- a gap, as entry 6: everything possible, nothing sure
     × (after board-table (startOf board-table 4) (gap ∷ []) ≡ record {
       number = 0;
       next = made 4 1 (stretch 0 5 (record { sure = 0; possible = 3 }) ∷ []) (record { sure = 0; possible = 3 });
     })
     -- a gap after a gap gives the same record
     × (after board-table (startOf board-table 4) (gap ∷ gap ∷ []) ≡ after board-table (startOf board-table 4) (gap ∷ []))
-    -- entry 7: waiting is sure at age 0, and fresh is possible at ages 0 to 5
+    -- a look after it, as entry 7: waiting is sure at age 0, and fresh is possible at ages 0 to 5
     × (after board-table (startOf board-table 4) (gap ∷ letter 1 ∷ []) ≡ record {
       number = 0;
       next = made 4 2
           (stretch 0 0 (record { sure = 1; possible = 3 }) ∷ stretch 1 5 (record { sure = 0; possible = 2 }) ∷ []) noPair;
     })
-    -- with room 1 entry 3 is refused, and the record is that of entry 2
+    -- "With room 1, entry 3 answers `3 refused 11` and the record is that of entry 2."
     × (after board-table (startOf board-table 1) (letter 0 ∷ span 5 ∷ letter 1 ∷ [])
     ≡ record { number = 11; next = after board-table (startOf board-table 1) (letter 0 ∷ span 5 ∷ []) .next })
     -- no span between two letters: both act at age 0, where waiting is held already
     × (after board-table (startOf board-table 4) (letter 0 ∷ letter 0 ∷ [])
     ≡ after board-table (startOf board-table 4) (letter 0 ∷ []))
 unfolding after call startFault recordFault letterFault spanFault startOf letterOf spanOf gapOf verdictOf settledOf
-    countOf inside pairIn pairsAt recordOf pairOkb heldb followsb blankb placeOkb properb touches push newest
+    countOf inside pairIn pairsAt recordOf pairOkb stretchOkb followsb blankb placeOkb properb touches push newest
     startPairs gapPairs stepPairs verdictAt settledAt badCounts badLength badMasks badParts badAges lineFault
-    tableFault image freshAt letterAt spanAt stepAt acceptsAt tableOf horizon acceptingAt headOf lineAt hasb union
+    tableFault image freshAt letterAt passedAt spanAt stepAt acceptsAt tableOf horizon acceptingAt headOf lineAt hasb union
     most all firstOf
 the-records = (refl, refl, refl, refl, refl, refl, refl, refl)
 
@@ -157,7 +184,7 @@ pub the-edges :
     -- a table with no accepting state answers no even after a gap
     × (verdictOf (set board-table 10 0) (gapOf board-table started .next) ≡ told says-no)
 unfolding startFault recordFault letterFault spanFault startOf letterOf spanOf gapOf verdictOf settledOf countOf
-    inside pairIn pairsAt recordOf pairOkb heldb followsb blankb placeOkb properb touches push newest startPairs
+    inside pairIn pairsAt recordOf pairOkb stretchOkb followsb blankb placeOkb properb touches push newest startPairs
     gapPairs stepPairs verdictAt settledAt badCounts badLength badMasks badParts badAges lineFault tableFault image
-    freshAt letterAt spanAt stepAt acceptsAt tableOf horizon acceptingAt headOf lineAt hasb union most all firstOf
+    freshAt letterAt passedAt spanAt stepAt acceptsAt tableOf horizon acceptingAt headOf lineAt hasb union most all firstOf
 the-edges = (refl, refl, refl, refl, refl, refl, refl, refl, (refl, refl, refl), refl, (refl, refl), refl)

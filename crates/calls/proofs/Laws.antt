@@ -1,6 +1,7 @@
 -- When a call is accepted, both ways (`startFault-iff`, `recordFault-iff`, `letterFault-iff`, `spanFault-iff`); what it hands
--- back then (`start-holds`, `letter-holds`, `span-holds`, `gap-holds`) and when it is refused (`answer-refused`). The count that
--- is told of a proper record is the one it holds (`count-held`); a gap after a gap changes nothing (`gap-gap`). Assumes nothing.
+-- back when it is refused (`start-refused`, `letter-refused`, `span-refused`, `gap-refused`) and when it is accepted
+-- (`start-holds`, `letter-holds`, `span-holds`, `gap-holds`). The count that is told of a proper record is the one it holds
+-- (`count-held`); a gap after a gap changes nothing (`gap-gap`). Assumes nothing.
 use Prim.Native.Nat.{ℕ, zero, suc, _≤_, _<_}
 use mathlib.Core.Path.{_≡_, refl, sym, ap, _∙_, subst}
 use mathlib.Core.Logic.{_↔_, _≢_}
@@ -19,7 +20,7 @@ use Rattle.faults.specs.Sound.{Sound}
 use Rattle.faults.proofs.Laws.{sound-iff, sound-closed}
 use Rattle.record.specs.declared.Record.{Record}
 use Rattle.record.specs.Pairs.{Pairs, startPairs, gapPairs}
-use Rattle.record.specs.Records.{recordOf, Proper, properb}
+use Rattle.record.specs.Records.{blankRecord, recordOf, Proper, properb}
 use Rattle.record.proofs.Records.{count-used, recordOf-whole, recordOf-pairs, recordOf-proper, proper-pairs}
 use Rattle.record.proofs.Proper.{proper-iff}
 use Rattle.record.proofs.Pairs.{Ok, step-ok, start-ok, gap-ok}
@@ -70,18 +71,47 @@ module _ (b : List ℕ) where
 
 -- ---- what a call hands back
 
--- a refused call hands the record back as it was handed in, and the number says why
-pub answer-refused : (n : ℕ) (old new : Record) → answer n old new .number ≢ 0 → answer n old new .next ≡ old
+answer-refused : (n : ℕ) (old new : Record) → answer n old new .number ≢ 0 → answer n old new .next ≡ old
 answer-refused zero old new h = absurd (h refl)
 answer-refused (suc n) old new h = refl
 
-pub answer-number : (n : ℕ) (old new : Record) → answer n old new .number ≡ n
+answer-number : (n : ℕ) (old new : Record) → answer n old new .number ≡ n
 answer-number zero old new = refl
 answer-number (suc n) old new = refl
 
 answer-accepted : (n : ℕ) (old new : Record) → n ≡ 0 → answer n old new .next ≡ new
 answer-accepted zero old new e = refl
 answer-accepted (suc n) old new e = absurd (let z : ⊥ = omega arith in z)
+
+-- "Every refused call returns its number with the record exactly as handed in; a refused start returns a record of all zeros."
+module _ (b : List ℕ) where
+  pub start-refused : (room : ℕ) → startOf b room .number ≢ 0 → startOf b room .next ≡ blankRecord
+  unfolding startOf
+  start-refused room = answer-refused (startFault b room) blankRecord (holding b room (startPairs (tableOf b)))
+
+  pub letter-refused : (r : Record) (a : ℕ) → letterOf b r a .number ≢ 0 → letterOf b r a .next ≡ r
+  unfolding letterOf
+  letter-refused r a = answer-refused (letterFault b r a) r (holding b (r .room) (stepped b r (letter a)))
+
+  pub span-refused : (r : Record) (s : ℕ) → spanOf b r s .number ≢ 0 → spanOf b r s .next ≡ r
+  unfolding spanOf
+  span-refused r s = answer-refused (spanFault b r s) r (holding b (r .room) (stepped b r (span s)))
+
+  pub gap-refused : (r : Record) → gapOf b r .number ≢ 0 → gapOf b r .next ≡ r
+  unfolding gapOf
+  gap-refused r = answer-refused (recordFault b r) r (holding b (r .room) (gapPairs (tableOf b)))
+
+  -- the number that a call carries is that of its first failed check, 0 where none failed
+  pub call-numbers : (room : ℕ) (r : Record) (a s : ℕ)
+      → (startOf b room .number ≡ startFault b room) × (letterOf b r a .number ≡ letterFault b r a)
+      × (spanOf b r s .number ≡ spanFault b r s) × (gapOf b r .number ≡ recordFault b r)
+  unfolding startOf letterOf spanOf gapOf
+  call-numbers room r a s = (
+    answer-number (startFault b room) _ _,
+    answer-number (letterFault b r a) _ _,
+    answer-number (spanFault b r s) _ _,
+    answer-number (recordFault b r) _ _,
+  )
 
 -- the record r has the room, is proper, and says the pairs f
 pub record Holds (b : List ℕ) (room : ℕ) (f : Pairs) (r : Record) : Type 0 where
@@ -126,7 +156,7 @@ module _ (b : List ℕ) where
       let ok = start-ok T (sound-closed b (p .0)) in
       holding-holds b room (startPairs T) ok (le-trans (start-count T (horizon T)) (p .1 .0)) (p .1 .0) (p .1 .1))
 
-  module _ (r : Record) (whole : length (r .places) ≡ 64) where
+  module _ (r : Record) where
     -- the pairs after a symbol are proper ones
     stepped-ok : Sound b → ProperFor b r → (x : Symbol) → Ok T (stepped b r x)
     stepped-ok s p x = step-ok T (sound-closed b s) x (pairsOf b r) (λ k l. proper-pairs (horizon T) (T .states) r p k)
@@ -142,9 +172,10 @@ module _ (b : List ℕ) where
         in-its-room (stepped b r (letter a)) (p .0 .1) (stepped-ok (p .0 .0) (p .0 .1) (letter a)) (p .1 .1))
 
     -- a span always finds room
-    pub span-holds : (s : ℕ) → spanOf b r s .number ≡ 0 → Holds b (r .room) (stepped b r (span s)) (spanOf b r s .next)
+    pub span-holds : length (r .places) ≡ 64 → (s : ℕ) → spanOf b r s .number ≡ 0
+        → Holds b (r .room) (stepped b r (span s)) (spanOf b r s .next)
     unfolding spanOf
-    span-holds s e = handed b (r .room) (stepped b r (span s)) (spanFault b r s) r e
+    span-holds whole s e = handed b (r .room) (stepped b r (span s)) (spanFault b r s) r e
         (λ z. let p = spanFault-iff b r s .0 z in
         in-its-room (stepped b r (span s)) (p .0 .1) (stepped-ok (p .0 .0) (p .0 .1) (span s)) (fits (p .0 .1)))
       where
@@ -158,9 +189,9 @@ module _ (b : List ℕ) where
         in-its-room (gapPairs T) (p .1) (gap-ok T) (le-trans (gap-count T (horizon T)) (p .1 .room-low)))
 
     -- the count that is told is the one that the record holds
-    pub count-held : recordFault b r ≡ 0 → countOf b r ≡ told (r .count)
+    pub count-held : length (r .places) ≡ 64 → recordFault b r ≡ 0 → countOf b r ≡ told (r .count)
     unfolding countOf
-    count-held e =
+    count-held whole e =
         ap (λ (n : ℕ). reply n (needed b (pairsOf b r))) e
         ∙ ap told (count-used (horizon T) (T .states) r whole (recordFault-iff b r .0 e .1))
 

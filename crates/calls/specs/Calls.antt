@@ -1,6 +1,6 @@
 -- What each call answers, for every table and record that may be handed in: its number and its record, or its number and
 -- nothing else, or what was asked (document 01, Numbers a call can answer with). Everything is said by ages and sets; of a
--- record only the pairs of its ages are read, and whether it is proper. Assumes nothing: these are definitions.
+-- record are read its room, the pairs of its ages, and whether it is proper. Assumes nothing: these are definitions.
 use Prim.Native.Nat.{ℕ, zero, suc}
 use mathlib.Core.List.{List}
 use mathlib.Core.Bool.{Bool, _&&_, _||_, not}
@@ -23,7 +23,7 @@ use Rattle.calls.specs.declared.Answer.{Answer}
 abbrev pub pairsOf : List ℕ → Record → Pairs
 pairsOf b r = pairsAt (horizon (tableOf b)) r
 
--- the record of the same room that holds the pairs f
+-- the record of that room that holds the pairs f
 abbrev pub holding : List ℕ → ℕ → Pairs → Record
 holding b room f = recordOf room (horizon (tableOf b)) f
 
@@ -58,22 +58,25 @@ spanFault b r s = recordFault b r then 10 if (eqb s 0 || ltb 2147483647 s)
 
 -- ---- what a call answers
 
--- "An accepted call carries the number 0", and the new record; "Every refused call returns its number with the record exactly
--- as handed in"
+-- "An accepted call carries the number 0", and with it the new record; "Every refused call returns its number with the record
+-- exactly as handed in"
 abbrev pub answer : ℕ → Record → Record → Answer
 answer zero old new = record { number = 0; next = new }
 answer (suc n) old new = record { number = suc n; next = old }
 
--- "a refused start returns a record of all zeros"
+-- a start in a room: the initial states at age 0; "a refused start returns a record of all zeros"
 unfoldable pub startOf : List ℕ → ℕ → Answer
 startOf b room = answer (startFault b room) blankRecord (holding b room (startPairs (tableOf b)))
 
+-- a letter: both sets stepped by it
 unfoldable pub letterOf : List ℕ → Record → ℕ → Answer
 letterOf b r a = answer (letterFault b r a) r (holding b (r .room) (stepped b r (letter a)))
 
+-- a span of s seconds: both sets stepped by it
 unfoldable pub spanOf : List ℕ → Record → ℕ → Answer
 spanOf b r s = answer (spanFault b r s) r (holding b (r .room) (stepped b r (span s)))
 
+-- a gap: nothing sure, everything possible, whatever the record held; "A start runs checks 1 to 8 and a gap likewise."
 unfoldable pub gapOf : List ℕ → Record → Answer
 gapOf b r = answer (recordFault b r) r (holding b (r .room) (gapPairs (tableOf b)))
 
@@ -84,15 +87,23 @@ pub data Reply (A : Type 0) : Type 0 where
   refused : ℕ → Reply A
   told : A → Reply A
 
+-- the number that a reply carries: 0 where it was accepted
+abbrev pub replyNumber : {A : Type 0} → Reply A → ℕ
+replyNumber (refused n) = n
+replyNumber (told a) = 0
+
+-- told where no check failed
 abbrev pub reply : {A : Type 0} → ℕ → A → Reply A
 reply zero a = told a
 reply (suc n) a = refused (suc n)
 
+-- the three questions: "A plain question (verdict, settled, count) runs checks 1 to 8"
 unfoldable pub verdictOf : List ℕ → Record → Reply Verdict
 verdictOf b r = reply (recordFault b r) (verdictAt (tableOf b) (pairsOf b r))
 
 unfoldable pub settledOf : List ℕ → Record → Reply Bool
 settledOf b r = reply (recordFault b r) (settledAt (tableOf b) (pairsOf b r))
 
+-- the count is that of the longest runs of the record's pairs; that its field has the same number is a law (`count-held`)
 unfoldable pub countOf : List ℕ → Record → Reply ℕ
 countOf b r = reply (recordFault b r) (needed b (pairsOf b r))

@@ -134,8 +134,8 @@ pub checks-in-order : map tableFault (set (set board-table 0 2) 3 17
 unfolding tableFault badCounts badLength badMasks badParts badAges lineFault firstOf headOf lineAt
 checks-in-order = refl
 
--- line 0 with U below L and line 1 from state 2; line 0 from state 2 and line 1 with U below L; line 1 alone, from state 2 and
--- with U below L; of 64 lines the last alone, from state 1 of 1
+-- line 0 with U below L and line 1 from state 2; line 0 from state 2 and line 1 with U below L; line 1 alone bad, once from
+-- state 2 and once with U below L; of 64 lines the last alone bad, from state 1 of 1
 pub lines-in-order : map tableFault (set (aged 5 4) 24 2 ∷ set (set board-table 12 2) 31 6 ∷ set board-table 24 2
     ∷ set board-table 31 6 ∷ set (plain 1 1 64) 768 1 ∷ [])
     ≡ 7 ∷ 6 ∷ 6 ∷ 7 ∷ 6 ∷ []

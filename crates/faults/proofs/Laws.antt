@@ -58,7 +58,7 @@ line-passes h l =
     let checks = check 5 parts and-then check 6 ages in
     record { iff = Iff·trans (checks .iff) ((λ e. search), λ s. search) }
 
--- "Each is given in its case and in no other": no number is given just where none of the cases of 1 to 7 is met
+-- no number is given just where none of the cases of 1 to 7 is met
 pub sound-iff : (b : List ℕ) → (tableFault b ≡ 0) ↔ Sound b
 unfolding tableFault badCounts badLength badMasks
 sound-iff b =

@@ -52,9 +52,11 @@ badAges l =
     || (ltb longestAge (l .greatest) && not (eqb (l .greatest) noBound))
     || ltb (l .greatest) (l .least)
 
+-- a line's number: "6 before 7 within a line"
 unfoldable pub lineFault : Head → Line → ℕ
 lineFault h l = 6 if badParts h l then 7 if badAges l
 
+-- the table's number: "Checks run in this order", then "the first bad line decides"
 unfoldable pub tableFault : List ℕ → ℕ
 tableFault b =
     1 if ltb (length b) 12

@@ -1,10 +1,11 @@
--- Ages above the horizon meet the same conditions (`meets-above`), so that masks by age, 0 to H and one above, stand for a set
--- of configurations exactly, after every symbol (`step-stands`, `after-stands`), from a start (`initial-stands`) and from a gap
--- (`nothing-stands`, `everything-stands`); they accept exactly if the set does (`accepts-stands`), and two of them are the same
--- exactly if their sets are, ages above H taken as one (`settled-stands`). Assumes nothing.
+-- The horizon is the largest bound (`horizon-bounds`, `horizon-attained`), and ages above it meet the same conditions
+-- (`meets-above`). So masks by age, 0 to H and one above, mean a set of configurations exactly: after every symbol
+-- (`step-means`, `after-means`), from a start (`initial-means`) and from a gap (`nothing-means`, `everything-means`). They
+-- accept exactly if the set does (`accepts-means`), and two of them are the same exactly if their sets are, ages above H taken
+-- as one (`settled-means`). Assumes nothing.
 use Prim.Native.Nat.{ℕ, suc, _+_, _-_, _^_, _≤_, _<_, max}
 use mathlib.Core.Path.{_≡_, refl, sym, ap, _∙_, subst}
-use mathlib.Core.Logic.{_↔_, _⊎_, inl, inr, ⊎-elim, Iff·trans, Iff·symm}
+use mathlib.Core.Logic.{_↔_, _⊎_, inl, inr, _≢_, ⊎-elim, ⊎-map, Iff·trans, Iff·symm}
 use mathlib.Core.Bool.{Bool, true, false, _&&_, _||_, cond, not, Bool·beq}
 use native.Mathlib.Decide.{ℕ-discrete, decLe}
 use native.Mathlib.Omega.{arith}
@@ -12,12 +13,12 @@ use lib.Bits.{bitOr, bitAnd}
 use lib.Dec.{T as Is, eqb, leb, ltb}
 use Rattle.base.specs.Masks.{Has, hasb, pick, union, most}
 use Rattle.base.proofs.Tests.{eqb-iff, leb-iff, ltb-iff, beq-iff, not-iff, and-iff, or-iff, is-true, is-false}
-use Rattle.base.proofs.Masks.{has-or, has-and, has-bit, has-full, has-pick, has-cond, has-union, not-has-zero, ext-has, nonempty, hasb-iff, le-most}
+use Rattle.base.proofs.Masks.{has-or, has-and, has-bit, has-full, has-pick, has-cond, has-union, not-has-zero, ext-has, nonempty, hasb-iff, le-most, most-attained}
 use Rattle.table.specs.declared.Line.{Line}
 use Rattle.meaning.specs.Tables.{Table, noBound, Meets, resets, lineTop, horizon, acceptingAt}
 use Rattle.meaning.specs.Runs.{Symbol, letter, span, Word, empty, _▷_, Follows, Step}
 use Rattle.meaning.specs.Sets.{Confs, step, after, Accepts, Initial, Nothing, Everything, Beyond, Same}
-use Rattle.meaning.specs.Ages.{clip, Clipped, StandsFor, meetsb, takes, image, freshAt, letterAt, spanAt, stepAt, afterAt, initialAt, nothingAt, everythingAt, acceptsAt}
+use Rattle.meaning.specs.Ages.{clip, Clipped, Means, meetsb, takes, image, freshAt, letterAt, passedAt, spanAt, stepAt, afterAt, initialAt, nothingAt, everythingAt, acceptsAt}
 
 -- ---- "All ages above H meet the same conditions."
 
@@ -47,6 +48,25 @@ horizon-bounds T i l = (omega (arith, top), go (ℕ-discrete greatest noBound))
     go : Dec (greatest ≡ noBound) → (greatest ≡ noBound) ⊎ (greatest ≤ H)
     go (yes e) = inl e
     go (no d) = inr (omega (arith, rw (bound d) at top))
+
+-- and H is one of the bounds, or 0
+pub horizon-attained : (T : Table)
+    → (horizon T ≡ 0) ⊎ ((i : ℕ) × (i < T .lines)
+    × ((T .line i .least ≡ horizon T) ⊎ ((T .line i .greatest ≢ noBound) × (T .line i .greatest ≡ horizon T))))
+unfolding horizon
+horizon-attained T = ⊎-map (λ e. e) (λ (i, l, e). (i, l, bound (T .line i) e)) (most-attained (T .lines) (λ k. lineTop (T .line k)))
+  where
+    bound : (l : Line) {H : ℕ} → lineTop l ≡ H → (l .least ≡ H) ⊎ ((l .greatest ≢ noBound) × (l .greatest ≡ H))
+    bound l {H} = by (eqb (l .greatest) noBound) refl
+      where
+        by : (b : Bool) → eqb (l .greatest) noBound ≡ b → max (l .least) (cond b 0 (l .greatest)) ≡ H
+            → (l .least ≡ H) ⊎ ((l .greatest ≢ noBound) × (l .greatest ≡ H))
+        by true t e = inl (omega arith)
+        by false t e = larger (decLe (l .greatest) (l .least))
+          where
+            larger : Dec (l .greatest ≤ l .least) → (l .least ≡ H) ⊎ ((l .greatest ≢ noBound) × (l .greatest ≡ H))
+            larger (yes le) = inl (omega arith)
+            larger (no d) = inr ((λ n. subst Is t (eqb-iff (l .greatest) noBound .1 n)), omega arith)
 
 -- two ages that are one, where those above H are taken as one, meet the same conditions
 meets-alike : (H : ℕ) (l : Line) → Bounded H l → (t u : ℕ) → clip H t ≡ clip H u → Meets l t → Meets l u
@@ -135,7 +155,7 @@ has-image T r a t m q = (to, from)
 
 -- ---- a letter
 
-module _ (T : Table) (a : ℕ) (f : ℕ → ℕ) (S : Confs) (stands : StandsFor (horizon T) f S) where
+module _ (T : Table) (a : ℕ) (f : ℕ → ℕ) (S : Confs) (means : Means (horizon T) f S) where
   abbrev H : ℕ
   H = horizon T
 
@@ -143,7 +163,7 @@ module _ (T : Table) (a : ℕ) (f : ℕ → ℕ) (S : Confs) (stands : StandsFor
   led-step : (r : Bool) (u q : ℕ) → u ≤ suc H → Led T r a u (f u) q
       → (p : ℕ) × (t : ℕ) × (clip H t ≡ u) × S p t × Follows T a p t q (cond r 0 t)
   led-step r u q l d = let m : Line = T .line (d .index) in
-      let c = stands (m .from) u l .0 (d .held) in (
+      let c = means (m .from) u l .0 (d .held) in (
         m .from,
         c .0,
         c .1,
@@ -169,16 +189,16 @@ module _ (T : Table) (a : ℕ) (f : ℕ → ℕ) (S : Confs) (stands : StandsFor
     bears = s .bears;
     enters = s .enters;
     meets = meets-alike H (T .line (s .index)) (horizon-bounds T (s .index) (s .listed)) t (clip H t) (omega arith) (s .meets);
-    held = stands (T .line (s .index) .from) (clip H t) (omega arith) .1
+    held = means (T .line (s .index) .from) (clip H t) (omega arith) .1
         (t, refl, subst (λ (p : ℕ). S p t) (sym (s .leaves)) h);
   }
 
   abbrev resetAt : ℕ → ℕ
   resetAt u = image T true a u (f u)
 
-  pub letter-stands : StandsFor H (letterAt T H a f) (step T (letter a) S)
+  pub letter-means : Means H (letterAt T a f) (step T (letter a) S)
   unfolding letterAt freshAt step Step
-  letter-stands q k l = (to, from)
+  letter-means q k l = (to, from)
     where
       Now : Type 0
       Now = Clipped H (step T (letter a) S) q k
@@ -238,10 +258,10 @@ module _ (T : Table) (a : ℕ) (f : ℕ → ℕ) (S : Confs) (stands : StandsFor
 
 -- ---- a span
 
-pub span-stands : (T : Table) (H s : ℕ) (f : ℕ → ℕ) (S : Confs) → StandsFor H f S
-    → StandsFor H (spanAt H s f) (step T (span s) S)
-unfolding spanAt step Step
-span-stands T H s f S stands q k l = (to, from)
+pub span-means : (T : Table) (H s : ℕ) (f : ℕ → ℕ) (S : Confs) → Means H f S
+    → Means H (spanAt H s f) (step T (span s) S)
+unfolding spanAt passedAt step Step
+span-means T H s f S means q k l = (to, from)
   where
     Now : Type 0
     Now = Clipped H (step T (span s) S) q k
@@ -266,7 +286,7 @@ span-stands T H s f S stands q k l = (to, from)
         within (b, j) = let p = has-pick (leb s k) (f (k - s)) q .0 j in
             let b′ : k ≤ H = leb-iff k H .0 b in
             let c : s ≤ k = leb-iff s k .0 (p .0) in
-            let d = stands q (k - s) (omega arith) .0 (p .1) in
+            let d = means q (k - s) (omega arith) .0 (p .1) in
             later (d .0) (omega (arith, d .1)) (d .2)
 
         above : Is (not (leb k H)) × Has high q → Now
@@ -274,7 +294,7 @@ span-stands T H s f S stands q k l = (to, from)
             let p = has-pick (ltb H (u .0 + s)) (f (u .0)) q .0 (u .2) in
             let b′ : ¬ (k ≤ H) = λ z. not-iff (leb k H) .0 b (leb-iff k H .1 z) in
             let c : H < u .0 + s = ltb-iff H (u .0 + s) .0 (p .0) in
-            let d = stands q (u .0) (omega (arith, u .1)) .0 (p .1) in
+            let d = means q (u .0) (omega (arith, u .1)) .0 (p .1) in
             later (d .0) (omega (arith, d .1)) (d .2)
 
     from : Now → Has (cond (leb k H) low high) q
@@ -284,7 +304,7 @@ span-stands T H s f S stands q k l = (to, from)
         v = clip H u
 
         held : Has (f v) q
-        held = stands q v (omega arith) .1 (u, refl, subst (λ (p : ℕ). S p u) same h)
+        held = means q v (omega arith) .1 (u, refl, subst (λ (p : ℕ). S p u) same h)
 
         moved : k ≤ H → Has low q
         moved b = let z : v ≡ k - s = omega arith in
@@ -302,33 +322,33 @@ span-stands T H s f S stands q k l = (to, from)
 
 -- ---- every symbol, and every word
 
-pub step-stands : (T : Table) (x : Symbol) (f : ℕ → ℕ) (S : Confs) → StandsFor (horizon T) f S
-    → StandsFor (horizon T) (stepAt T x f) (step T x S)
+pub step-means : (T : Table) (x : Symbol) (f : ℕ → ℕ) (S : Confs) → Means (horizon T) f S
+    → Means (horizon T) (stepAt T x f) (step T x S)
 unfolding stepAt
-step-stands T (letter a) f S stands = letter-stands T a f S stands
-step-stands T (span s) f S stands = span-stands T (horizon T) s f S stands
+step-means T (letter a) f S means = letter-means T a f S means
+step-means T (span s) f S means = span-means T (horizon T) s f S means
 
-pub after-stands : (T : Table) (f : ℕ → ℕ) (S : Confs) → StandsFor (horizon T) f S
-    → (w : Word) → StandsFor (horizon T) (afterAt T f w) (after T S w)
+pub after-means : (T : Table) (f : ℕ → ℕ) (S : Confs) → Means (horizon T) f S
+    → (w : Word) → Means (horizon T) (afterAt T f w) (after T S w)
 unfolding afterAt after
-after-stands T f S stands empty = stands
-after-stands T f S stands (w ▷ x) = step-stands T x (afterAt T f w) (after T S w) (after-stands T f S stands w)
+after-means T f S means empty = means
+after-means T f S means (w ▷ x) = step-means T x (afterAt T f w) (after T S w) (after-means T f S means w)
 
 -- ---- a start and a gap
 
-pub initial-stands : (T : Table) (H : ℕ) → StandsFor H (initialAt T) (Initial T)
-initial-stands T H q k l = (
+pub initial-means : (T : Table) (H : ℕ) → Means H (initialAt T) (Initial T)
+initial-means T H q k l = (
   (λ h. let p = has-pick (eqb k 0) (T .initial) q .0 h in
       let z : k ≡ 0 = eqb-iff k 0 .0 (p .0) in
       (0, omega arith, (refl, p .1))),
   λ h. has-pick (eqb k 0) (T .initial) q .1 (eqb-iff k 0 .1 (omega (arith, h .1, h .2 .0)), h .2 .1),
 )
 
-pub nothing-stands : (H : ℕ) → StandsFor H nothingAt Nothing
-nothing-stands H q k l = ((λ h. absurd (not-has-zero q h)), λ h. absurd (h .2))
+pub nothing-means : (H : ℕ) → Means H nothingAt Nothing
+nothing-means H q k l = ((λ h. absurd (not-has-zero q h)), λ h. absurd (h .2))
 
-pub everything-stands : (T : Table) (H : ℕ) → StandsFor H (everythingAt T) (Everything T)
-everything-stands T H q k l = ((λ h. (k, omega arith, has-full (T .states) q .0 h)), λ h. has-full (T .states) q .1 (h .2))
+pub everything-means : (T : Table) (H : ℕ) → Means H (everythingAt T) (Everything T)
+everything-means T H q k l = ((λ h. (k, omega arith, has-full (T .states) q .0 h)), λ h. has-full (T .states) q .1 (h .2))
 
 -- ---- acceptance
 
@@ -337,9 +357,9 @@ accepting-clip : (T : Table) (t : ℕ) → acceptingAt T (clip (horizon T) t) �
 unfolding acceptingAt
 accepting-clip T t = refl
 
-pub accepts-stands : (T : Table) (f : ℕ → ℕ) (S : Confs) → StandsFor (horizon T) f S → Is (acceptsAt T f) ↔ Accepts T S
+pub accepts-means : (T : Table) (f : ℕ → ℕ) (S : Confs) → Means (horizon T) f S → Is (acceptsAt T f) ↔ Accepts T S
 unfolding acceptsAt
-accepts-stands T f S stands = (to, from)
+accepts-means T f S means = (to, from)
   where
     H : ℕ
     H = horizon T
@@ -356,7 +376,7 @@ accepts-stands T f S stands = (to, from)
         go : (q : ℕ) × Has all q → Accepts T S
         go (q, k) = let u = has-union (suc (suc H)) good q .0 k in
             let p = has-and (f (u .0)) (acceptingAt T (u .0)) q .0 (u .2) in
-            let c = stands q (u .0) (omega (arith, u .1)) .0 (p .0) in
+            let c = means q (u .0) (omega (arith, u .1)) .0 (p .0) in
             (q, c .0, subst (λ (m : ℕ). Has m q) (ap (acceptingAt T) (sym (c .1)) ∙ accepting-clip T (c .0)) (p .1), c .2)
 
     from : Accepts T S → Is (not (eqb all 0))
@@ -366,7 +386,7 @@ accepts-stands T f S stands = (to, from)
         u = clip H t
 
         held : Has (f u) q
-        held = stands q u (omega arith) .1 (t, refl, h)
+        held = means q u (omega arith) .1 (t, refl, h)
 
         accepting : Has (acceptingAt T u) q
         accepting = subst (λ (m : ℕ). Has m q) (sym (accepting-clip T t)) a
@@ -402,9 +422,9 @@ same-clipped H A B = (to, from)
     from e = let e′ : (q k : ℕ) → Clipped H B q k ↔ Clipped H A q k = λ q k. Iff·symm (e q k) in
         record { low = λ q t l. (low e q t l, low e′ q t l); beyond = λ q. (high e q, high e′ q) }
 
-pub settled-stands : (H : ℕ) (f g : ℕ → ℕ) (A B : Confs) → StandsFor H f A → StandsFor H g B
+pub settled-means : (H : ℕ) (f g : ℕ → ℕ) (A B : Confs) → Means H f A → Means H g B
     → ((k : ℕ) → k ≤ suc H → f k ≡ g k) ↔ Same H A B
-settled-stands H f g A B sa sb = (to, from)
+settled-means H f g A B sa sb = (to, from)
   where
     to : ((k : ℕ) → k ≤ suc H → f k ≡ g k) → Same H A B
     to e = same-clipped H A B .1 (λ q k. (

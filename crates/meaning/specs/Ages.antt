@@ -17,13 +17,17 @@ use Rattle.meaning.specs.Sets.{Confs}
 abbrev pub clip : ℕ → ℕ → ℕ
 clip H t = min t (suc H)
 
+-- how many ages are looked at then: 0 to H, and the one age H + 1
+abbrev pub ages : ℕ → ℕ
+ages H = suc (suc H)
+
 -- the set S, where all ages above H are taken as one
 abbrev pub Clipped : ℕ → Confs → Confs
 Clipped H S q k = (t : ℕ) × (clip H t ≡ k) × S q t
 
--- the masks f stand for the set S: f k has the states that S holds at age k, and f (H + 1) those it holds at any age above H
-abbrev pub StandsFor : ℕ → (ℕ → ℕ) → Confs → Type 0
-StandsFor H f S = (q k : ℕ) → k ≤ suc H → Has (f k) q ↔ Clipped H S q k
+-- the masks f mean the set S: f k has the states that S holds at age k, and f (H + 1) those it holds at any age above H
+abbrev pub Means : ℕ → (ℕ → ℕ) → Confs → Type 0
+Means H f S = (q k : ℕ) → k ≤ suc H → Has (f k) q ↔ Clipped H S q k
 
 -- "L ≤ t ≤ U"
 abbrev pub meetsb : Line → ℕ → Bool
@@ -37,22 +41,26 @@ takes l r a t m = Bool·beq (resets l) r && eqb (l .letter) a && meetsb l t && h
 unfoldable pub image : Table → Bool → ℕ → ℕ → ℕ → ℕ
 image T r a t m = union (T .lines) (λ i. pick (takes (T .line i) r a t m) (2 ^ (T .line i .to)))
 
--- the states that stand at age 0 after the letter a apart from those that were there: where the resetting lines lead from
--- every age, and then the standing states
-unfoldable pub freshAt : Table → ℕ → ℕ → (ℕ → ℕ) → ℕ
-freshAt T H a f = bitOr (union (suc (suc H)) (λ u. image T true a u (f u))) (T .standing)
+-- what the letter a adds at age 0, beside where the keeping lines lead from age 0: where the resetting lines lead from every
+-- age, and then the standing states
+unfoldable pub freshAt : Table → ℕ → (ℕ → ℕ) → ℕ
+freshAt T a f = bitOr (union (ages (horizon T)) (λ u. image T true a u (f u))) (T .standing)
 
 -- the states at age k after the letter a
-unfoldable pub letterAt : Table → ℕ → ℕ → (ℕ → ℕ) → ℕ → ℕ
-letterAt T H a f k = bitOr (image T false a k (f k)) (pick (eqb k 0) (freshAt T H a f))
+unfoldable pub letterAt : Table → ℕ → (ℕ → ℕ) → ℕ → ℕ
+letterAt T a f k = bitOr (image T false a k (f k)) (pick (eqb k 0) (freshAt T a f))
 
--- the states at age k after the span s: those of age k - s; above H, those of every age that the span takes above H
+-- the states of every age that the span s takes above H
+unfoldable pub passedAt : ℕ → ℕ → (ℕ → ℕ) → ℕ
+passedAt H s f = union (ages H) (λ u. pick (ltb H (u + s)) (f u))
+
+-- the states at age k after the span s: up to H, those of age k - s, if there is such an age; above H, those that passed it
 unfoldable pub spanAt : ℕ → ℕ → (ℕ → ℕ) → ℕ → ℕ
-spanAt H s f k = cond (leb k H) (pick (leb s k) (f (k - s))) (union (suc (suc H)) (λ u. pick (ltb H (u + s)) (f u)))
+spanAt H s f k = cond (leb k H) (pick (leb s k) (f (k - s))) (passedAt H s f)
 
 -- the states at age k after the symbol
 unfoldable pub stepAt : Table → Symbol → (ℕ → ℕ) → ℕ → ℕ
-stepAt T (letter a) f = letterAt T (horizon T) a f
+stepAt T (letter a) f = letterAt T a f
 stepAt T (span s) f = spanAt (horizon T) s f
 
 -- the masks that f has become after the word
@@ -74,4 +82,4 @@ everythingAt T k = 2 ^ (T .states) - 1
 
 -- the masks accept: at some age 0 to H + 1 a state is held that accepts there
 unfoldable pub acceptsAt : Table → (ℕ → ℕ) → Bool
-acceptsAt T f = not (eqb (union (suc (suc (horizon T))) (λ k. bitAnd (f k) (acceptingAt T k))) 0)
+acceptsAt T f = not (eqb (union (ages (horizon T)) (λ k. bitAnd (f k) (acceptingAt T k))) 0)

@@ -6,7 +6,8 @@ use mathlib.Core.Path.{_≡_}
 use Rattle.base.specs.Masks.{Has}
 use Rattle.meaning.specs.Tables.{Table, Meets, ageAfter, acceptingAt}
 
--- what a stream is made of: a letter, or a span of seconds
+-- what a stream is made of: a letter, or a span of seconds. A word may hold any letter and any span, 0 too; those of a stream
+-- hold accepted ones only
 pub data Symbol : Type 0 where
   letter : ℕ → Symbol
   span : ℕ → Symbol
@@ -62,6 +63,7 @@ pub record RunOver (T : Table) (w : Word) (q t : ℕ) : Type 0 where
   pub begins : Begins T before first
   pub run : Run T first 0 rest q t
 
--- the word is accepted: some run over it is accepting, that is, ends in a state that accepts at its age
+-- the word is accepted: some run over it is accepting, that is, ends in a state that accepts at its age. 001: a run is
+-- "successful if q_0 ∈ I, v_0(x) = 0 for all x ∈ X, and q_n ∈ F", and a word is accepted "if there is a successful run" on it
 abbrev pub Accepted : Table → Word → Type 0
 Accepted T w = (q : ℕ) × (t : ℕ) × Has (acceptingAt T t) q × RunOver T w q t

@@ -30,7 +30,8 @@ unfoldable pub after : Table → Confs → Word → Confs
 after T S empty = S
 after T S (w ▷ x) = step T x (after T S w)
 
--- "A set accepts if it holds a configuration whose state is accepting", asked of the state at its age
+-- "A set accepts if it holds a configuration whose state is accepting, at any age." `acceptingAt` has the accepting states of an
+-- age, the same ones at every age
 abbrev pub Accepts : Table → Confs → Type 0
 Accepts T S = (q : ℕ) × (t : ℕ) × Has (acceptingAt T t) q × S q t
 

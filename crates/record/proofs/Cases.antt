@@ -10,8 +10,8 @@ use Rattle.record.specs.declared.Pair.{Pair}
 use Rattle.record.specs.declared.Stretch.{Stretch}
 use Rattle.record.specs.declared.Record.{Record}
 use Rattle.record.specs.Pairs.{Pairs, noPair}
-use Rattle.record.specs.Stretches.{startsAt, starts, stretch, touches, push, newest, stretchesOf}
-use Rattle.record.specs.Records.{blank, blankRecord, inside, pairIn, pairsAt, recordOf, pairOkb, heldb, followsb, blankb, placeOkb, properb}
+use Rattle.record.specs.Stretches.{firstAgeAt, firstAges, stretch, touches, push, newest, stretchesOf}
+use Rattle.record.specs.Records.{blank, blankRecord, inside, pairIn, pairsAt, recordOf, pairOkb, stretchOkb, followsb, blankb, placeOkb, properb}
 
 -- ---- stretches
 
@@ -31,9 +31,9 @@ pub three-stretches : stretchesOf 5 seven ≡ stretch 0 1 half ∷ stretch 2 2 m
 unfolding touches push newest
 three-stretches = refl
 
-pub three-starts : starts 6 seven ≡ 3
-unfolding starts startsAt
-three-starts = refl
+pub three-first-ages : firstAges 6 seven ≡ 3
+unfolding firstAges firstAgeAt
+three-first-ages = refl
 
 -- an age more begins a stretch, an age less ends one sooner
 pub to-age-6-and-4 : (stretchesOf 6 seven ≡ stretch 0 1 half ∷ stretch 2 2 maybe ∷ stretch 4 5 maybe ∷ stretch 6 6 half ∷ [])
@@ -74,7 +74,7 @@ pub rooms : map (λ r. properb 5 2 r) (two 2 (stretch 0 1 half) (stretch 4 5 hal
     ∷ two 65 (stretch 0 1 half) (stretch 4 5 half) maybe
     ∷ made 1 0 [] noPair ∷ made 0 0 [] noPair ∷ blankRecord ∷ [])
     ≡ true ∷ false ∷ true ∷ false ∷ true ∷ false ∷ false ∷ []
-unfolding properb placeOkb blankb followsb heldb pairOkb all
+unfolding properb placeOkb blankb followsb stretchOkb pairOkb all
 rooms = refl
 
 -- a last age of 5 and of 6; first 1 and last 1, first 2 and last 1
@@ -83,7 +83,7 @@ pub within-the-horizon : map (λ r. properb 5 2 r) (made 1 1 (stretch 5 5 half �
     ∷ made 1 1 (stretch 1 1 half ∷ []) noPair
     ∷ made 1 1 (stretch 2 1 half ∷ []) noPair ∷ [])
     ≡ true ∷ false ∷ true ∷ false ∷ []
-unfolding properb placeOkb blankb followsb heldb pairOkb all
+unfolding properb placeOkb blankb followsb stretchOkb pairOkb all
 within-the-horizon = refl
 
 -- apart with the same pair; touching with another, and with the same; sharing an age; in falling order
@@ -93,7 +93,7 @@ pub neighbours : map (λ r. properb 5 2 r) (two 2 (stretch 0 1 half) (stretch 3 
     ∷ two 2 (stretch 0 2 half) (stretch 2 5 maybe) maybe
     ∷ two 2 (stretch 2 5 half) (stretch 0 1 maybe) maybe ∷ [])
     ≡ true ∷ true ∷ false ∷ false ∷ false ∷ []
-unfolding properb placeOkb blankb followsb heldb pairOkb all
+unfolding properb placeOkb blankb followsb stretchOkb pairOkb all
 neighbours = refl
 
 -- of a stretch: nothing possible; sure and not possible; state 2 possible, of 2 states. Then the same two faults above H, and
@@ -105,7 +105,7 @@ pub pairs-of-a-record : map (λ r. properb 5 2 r) (made 1 1 (stretch 0 0 noPair 
     ∷ made 1 0 [] (record { sure = 0; possible = 4 })
     ∷ made 1 0 [] noPair ∷ [])
     ≡ false ∷ false ∷ false ∷ false ∷ false ∷ true ∷ []
-unfolding properb placeOkb blankb followsb heldb pairOkb all
+unfolding properb placeOkb blankb followsb stretchOkb pairOkb all
 pairs-of-a-record = refl
 
 -- a place beyond the count that is not zero: the first of them, and the last
@@ -113,5 +113,5 @@ pub unused-places : map (λ r. properb 5 2 r) (made 2 1 (stretch 0 0 half ∷ st
     ∷ made 1 0 (replicate 63 blank ++ (stretch 0 1 noPair ∷ [])) noPair
     ∷ made 1 0 (replicate 63 blank ++ (stretch 0 0 noPair ∷ [])) noPair ∷ [])
     ≡ false ∷ false ∷ true ∷ []
-unfolding properb placeOkb blankb followsb heldb pairOkb all
+unfolding properb placeOkb blankb followsb stretchOkb pairOkb all
 unused-places = refl

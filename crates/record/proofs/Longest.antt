@@ -1,5 +1,5 @@
 -- The list of stretches has exactly the longest runs of document 01 (`stretches-longest`), in rising order
--- (`stretches-rising` in `Records`), and as many as there are ages at which one starts (`stretches-count`, `starts-longest`).
+-- (`stretches-rising` in `Records`), and as many as there are ages at which one starts (`stretches-count`, `firstAgeAt-longest`).
 -- On the way: a run is longest exactly if it goes on at neither end (`longest-iff`). Assumes nothing.
 use Prim.Native.Nat.{ℕ, zero, suc, _+_, _≤_, _<_}
 use mathlib.Core.Path.{_≡_, refl, sym, ap, _∙_, subst}
@@ -15,7 +15,7 @@ use Rattle.base.proofs.Tests.{is-true, is-false, eqb-iff, not-iff, and-iff}
 use Rattle.record.specs.declared.Pair.{Pair}
 use Rattle.record.specs.declared.Stretch.{Stretch}
 use Rattle.record.specs.Pairs.{Pairs}
-use Rattle.record.specs.Stretches.{RunOfAges, LongestRun, samePair, startsAt, starts, stretch, touches, putIf, put, push, newest, stretchesOf}
+use Rattle.record.specs.Stretches.{RunOfAges, LongestRun, samePair, firstAgeAt, firstAges, stretch, touches, putIf, put, push, newest, stretchesOf}
 use Rattle.record.proofs.Stretches.{samePair-iff, touches-iff, push-none, push-some, newest-run, Apart, ProperList, put-apart, newest-proper}
 
 -- a run of the ages below n that goes on at neither end
@@ -337,10 +337,10 @@ module _ (f : Pairs) where
   some-iff : (k : ℕ) → Is (not (eqb (f k .possible) 0)) ↔ (f k .possible ≢ 0)
   some-iff k = Iff·trans (not-iff (eqb (f k .possible) 0)) (Iff·not (eqb-iff (f k .possible) 0))
 
-  startsAt-iff : (k : ℕ) → Is (startsAt f k) ↔ ((f k .possible ≢ 0) × Different k)
-  unfolding startsAt
-  startsAt-iff zero = Iff·trans (some-iff 0) ((λ h. (h, λ j e. absurd (let z : ⊥ = omega arith in z))), λ h. h .0)
-  startsAt-iff (suc k) = Iff·trans
+  firstAgeAt-iff : (k : ℕ) → Is (firstAgeAt f k) ↔ ((f k .possible ≢ 0) × Different k)
+  unfolding firstAgeAt
+  firstAgeAt-iff zero = Iff·trans (some-iff 0) ((λ h. (h, λ j e. absurd (let z : ⊥ = omega arith in z))), λ h. h .0)
+  firstAgeAt-iff (suc k) = Iff·trans
       (and-iff (not (eqb (f (suc k) .possible) 0)) (not (samePair (f k) (f (suc k)))) (some-iff (suc k)) other)
       ((λ h. (h .0, λ j e q. h .1 (ap f (sym (suc-inj e)) ∙ q))), λ h. (h .0, h .1 k refl))
     where
@@ -348,18 +348,18 @@ module _ (f : Pairs) where
       other = Iff·trans (not-iff (samePair (f k) (f (suc k)))) (Iff·not (samePair-iff (f k) (f (suc k))))
 
   -- an age more adds a stretch exactly if one starts there
-  next-length : (n : ℕ) → length (newest (suc n) f) ≡ length (newest n f) + cond (startsAt f n) 1 0
+  next-length : (n : ℕ) → length (newest (suc n) f) ≡ length (newest n f) + cond (firstAgeAt f n) 1 0
   unfolding newest
   next-length n = go (ℕ-discrete (f n .possible) 0)
     where
       Adds : ℕ → ℕ → Type 0
-      Adds old new = new ≡ old + cond (startsAt f n) 1 0
+      Adds old new = new ≡ old + cond (firstAgeAt f n) 1 0
 
       same : (old : ℕ) → ¬ ((f n .possible ≢ 0) × Different n) → Adds old old
-      same old h = rw (is-false (startsAt f n) (λ t. h (startsAt-iff n .0 t))) (omega arith)
+      same old h = rw (is-false (firstAgeAt f n) (λ t. h (firstAgeAt-iff n .0 t))) (omega arith)
 
       more : (old : ℕ) → (f n .possible ≢ 0) × Different n → Adds old (suc old)
-      more old h = rw (is-true (startsAt f n) (startsAt-iff n .1 h)) (omega arith)
+      more old h = rw (is-true (firstAgeAt f n) (firstAgeAt-iff n .1 h)) (omega arith)
 
       placed : (c : f n .possible ≢ 0) (L : List Stretch) → newest n f ≡ L → Adds (length L) (length (put L n n (f n)))
       placed c [] e = more 0 (c, other-none f n c e)
@@ -377,12 +377,12 @@ module _ (f : Pairs) where
       go (yes e) = rw (push-none (newest n f) n n (f n) e) (same (length (newest n f)) (λ h. h .0 e))
       go (no c) = rw (push-some (newest n f) n n (f n) c) (placed c (newest n f) refl)
 
-  pub newest-count : (n : ℕ) → length (newest n f) ≡ starts n f
-  unfolding newest starts
+  pub newest-count : (n : ℕ) → length (newest n f) ≡ firstAges n f
+  unfolding newest firstAges
   newest-count zero = refl
-  newest-count (suc n) = next-length n ∙ ap (λ (m : ℕ). m + cond (startsAt f n) 1 0) (newest-count n)
+  newest-count (suc n) = next-length n ∙ ap (λ (m : ℕ). m + cond (firstAgeAt f n) 1 0) (newest-count n)
 
--- a longest run starts at the age k exactly where `startsAt` says so
+-- a longest run starts at the age k exactly where `firstAgeAt` says so
 module _ (H : ℕ) (f : Pairs) (k : ℕ) (low : k ≤ H) where
   -- a list with a stretch that begins at k
   abbrev Begun : List Stretch → Type 0
@@ -421,8 +421,8 @@ module _ (H : ℕ) (f : Pairs) (k : ℕ) (low : k ≤ H) where
               absurd (other (y .last) (q .0) (last-pair y (h y (List·Memᴰ·head refl)) ∙ q .1))
           two false t = (stretch k k (f k), List·Memᴰ·head refl, refl)
 
-  pub starts-longest : Is (startsAt f k) ↔ ((x : Stretch) × LongestRun H f x × (x .first ≡ k))
-  starts-longest = Iff·trans (startsAt-iff f k) (to, from)
+  pub firstAgeAt-longest : Is (firstAgeAt f k) ↔ ((x : Stretch) × LongestRun H f x × (x .first ≡ k))
+  firstAgeAt-longest = Iff·trans (firstAgeAt-iff f k) (to, from)
     where
       to : (f k .possible ≢ 0) × Different f k → (x : Stretch) × LongestRun H f x × (x .first ≡ k)
       to h = let b = begun h in (b .0, longest-iff H f (b .0) .1 (newest-ends f (suc H) (b .0) (b .1)), b .2)
@@ -439,5 +439,5 @@ module _ (H : ℕ) (f : Pairs) (k : ℕ) (low : k ≤ H) where
           here : f k ≡ x .pair
           here = g .same k (omega (arith, e)) (omega (arith, e, g .order))
 
-pub stretches-count : (H : ℕ) (f : Pairs) → length (stretchesOf H f) ≡ starts (suc H) f
+pub stretches-count : (H : ℕ) (f : Pairs) → length (stretchesOf H f) ≡ firstAges (suc H) f
 stretches-count H f = length-reverse (newest (suc H) f) ∙ newest-count f (suc H)

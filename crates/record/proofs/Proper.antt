@@ -15,7 +15,7 @@ use Rattle.record.specs.declared.Stretch.{Stretch}
 use Rattle.record.specs.declared.Record.{Record}
 use Rattle.record.specs.Pairs.{noPair}
 use Rattle.record.specs.Stretches.{samePair}
-use Rattle.record.specs.Records.{blank, place, PairOk, Held, Proper, pairOkb, heldb, followsb, blankb, placeOkb, properb}
+use Rattle.record.specs.Records.{blank, place, PairOk, StretchOk, Proper, pairOkb, stretchOkb, followsb, blankb, placeOkb, properb}
 use Rattle.record.proofs.Stretches.{samePair-iff}
 
 pub pairOk-iff : (n : ℕ) (p : Pair) → Is (pairOkb n p) ↔ PairOk n p
@@ -33,9 +33,9 @@ pairOk-iff n p = Iff·trans
     part : Is (eqb (bitOr s m) m) ↔ Part s m
     part = Iff·trans (eqb-iff (bitOr s m) m) (Iff·symm (part-or s m))
 
-pub held-iff : (H n : ℕ) (x : Stretch) → Is (heldb H n x) ↔ Held H n x
-unfolding heldb
-held-iff H n x = Iff·trans (and-iff (okb && withinb && orderb) someb (and-iff (okb && withinb) orderb within order) some) (
+pub stretchOk-iff : (H n : ℕ) (x : Stretch) → Is (stretchOkb H n x) ↔ StretchOk H n x
+unfolding stretchOkb
+stretchOk-iff H n x = Iff·trans (and-iff (okb && withinb && orderb) someb (and-iff (okb && withinb) orderb within order) some) (
   (λ h. record { pair = h .0 .0 .0; within = h .0 .0 .1; order = h .0 .1; some = h .1 }),
   λ h. (((h .pair, h .within), h .order), h .some),
 )
@@ -102,17 +102,17 @@ cond-iff false x y = ((λ h. ((λ t. absurd t), λ n. h)), λ h. h .1 (λ t. t))
 module _ (H n : ℕ) (r : Record) where
   -- what holds of place i: in use, and not
   abbrev Used : ℕ → Type 0
-  Used i = Held H n (place r i) × ((j : ℕ) → suc j ≡ i → Next (place r j) (place r i))
+  Used i = StretchOk H n (place r i) × ((j : ℕ) → suc j ≡ i → Next (place r j) (place r i))
 
   abbrev PlaceOk : ℕ → Type 0
   PlaceOk i = (i < r .count → Used i) × (r .count ≤ i → place r i ≡ blank)
 
   abbrev usedb : ℕ → Bool
-  usedb i = heldb H n (place r i) && (eqb i 0 || followsb (place r (i - 1)) (place r i))
+  usedb i = stretchOkb H n (place r i) && (eqb i 0 || followsb (place r (i - 1)) (place r i))
 
   used-iff : (i : ℕ) → Is (usedb i) ↔ Used i
-  used-iff i = and-iff (heldb H n (place r i)) (eqb i 0 || follows)
-      (held-iff H n (place r i)) (Iff·trans first-or-next (to, from i))
+  used-iff i = and-iff (stretchOkb H n (place r i)) (eqb i 0 || follows)
+      (stretchOk-iff H n (place r i)) (Iff·trans first-or-next (to, from i))
     where
       follows : Bool
       follows = followsb (place r (i - 1)) (place r i)

@@ -21,9 +21,9 @@ use Rattle.record.specs.declared.Pair.{Pair}
 use Rattle.record.specs.declared.Stretch.{Stretch}
 use Rattle.record.specs.declared.Record.{Record}
 use Rattle.record.specs.Pairs.{Pairs, noPair}
-use Rattle.record.specs.Stretches.{LongestRun, newest, stretchesOf, starts}
-use Rattle.record.specs.Records.{blank, place, inside, pairIn, pairsAt, recordOf, PairOk, Held, Proper}
-use Rattle.record.proofs.Stretches.{pair-ext, meaning, Apart, Good, ProperList, canon, newest-cong, newest-proper, meaning-newest}
+use Rattle.record.specs.Stretches.{LongestRun, newest, stretchesOf, firstAges}
+use Rattle.record.specs.Records.{blank, place, inside, pairIn, pairsAt, recordOf, PairOk, StretchOk, Proper}
+use Rattle.record.proofs.Stretches.{pair-ext, said, Apart, Good, ProperList, canon, newest-cong, newest-proper, said-newest}
 use Rattle.record.proofs.Longest.{stretches-longest, stretches-count}
 
 reverse-take : (l : List Stretch) (i : ℕ) → i < length l → reverse (take (suc i) l) ≡ getD l i blank ∷ reverse (take i l)
@@ -33,18 +33,18 @@ reverse-take l i h = ap reverse (take-suc l i blank h) ∙ reverse-append (take 
 abbrev pub used : Record → List Stretch
 used r = reverse (take (r .count) (r .places))
 
-pairIn-meaning : (l : List Stretch) (n k : ℕ) → n ≤ length l → pairIn l n k ≡ meaning (reverse (take n l)) k
-unfolding pairIn meaning
-pairIn-meaning l zero k h = refl
-pairIn-meaning l (suc n) k h = rw (reverse-take l n h)
-    (ap (cond (inside (getD l n blank) k) (getD l n blank .pair)) (pairIn-meaning l n k (omega arith)))
+pairIn-said : (l : List Stretch) (n k : ℕ) → n ≤ length l → pairIn l n k ≡ said (reverse (take n l)) k
+unfolding pairIn said
+pairIn-said l zero k h = refl
+pairIn-said l (suc n) k h = rw (reverse-take l n h)
+    (ap (cond (inside (getD l n blank) k) (getD l n blank .pair)) (pairIn-said l n k (omega arith)))
 
 module _ (H : ℕ) (r : Record) where
-  pub pairsAt-low : r .count ≤ length (r .places) → (k : ℕ) → k ≤ H → pairsAt H r k ≡ meaning (used r) k
+  pub pairsAt-low : r .count ≤ length (r .places) → (k : ℕ) → k ≤ H → pairsAt H r k ≡ said (used r) k
   unfolding pairsAt
   pairsAt-low c k l =
       ap (λ (t : Bool). cond t (pairIn (r .places) (r .count) k) (r .above)) (is-true (leb k H) (leb-iff k H .1 l))
-      ∙ pairIn-meaning (r .places) (r .count) k c
+      ∙ pairIn-said (r .places) (r .count) k c
 
   pub pairsAt-above : pairsAt H r (suc H) ≡ r .above
   unfolding pairsAt
@@ -81,11 +81,11 @@ proper-pairs H n r p k = go (leb k H)
     go true = among (r .count) (le-refl (r .count))
     go false = p .above
 
-held-good : (H n : ℕ) (x : Stretch) → Held H n x → Good (PairOk n) (suc H) x
-held-good H n x h = record { pair = h .pair; below = omega (arith, h .within); order = h .order; some = h .some }
+ok-good : (H n : ℕ) (x : Stretch) → StretchOk H n x → Good (PairOk n) (suc H) x
+ok-good H n x h = record { pair = h .pair; below = omega (arith, h .within); order = h .order; some = h .some }
 
-good-held : (H n : ℕ) (x : Stretch) → Good (PairOk n) (suc H) x → Held H n x
-good-held H n x g = record { pair = g .pair; within = omega (arith, g .below); order = g .order; some = g .some }
+good-ok : (H n : ℕ) (x : Stretch) → Good (PairOk n) (suc H) x → StretchOk H n x
+good-ok H n x g = record { pair = g .pair; within = omega (arith, g .below); order = g .order; some = g .some }
 
 -- ---- a proper record is the one that holds its own pairs. Every record has 64 places; that is `whole`.
 
@@ -103,7 +103,7 @@ module _ (H n : ℕ) (r : Record) (whole : length (r .places) ≡ 64) (ok : Prop
         used-proper i (omega arith) (place r i .first) rising,
       )
     where
-      held : Held H n (place r i)
+      held : StretchOk H n (place r i)
       held = ok .each i (omega arith)
 
       rising : (j : ℕ) → suc j ≡ i → place r j .last < place r i .first
@@ -115,7 +115,7 @@ module _ (H n : ℕ) (r : Record) (whole : length (r .places) ≡ 64) (ok : Prop
 
   newest-used : newest (suc H) (pairsAt H r) ≡ used r
   newest-used =
-      newest-cong (suc H) (pairsAt H r) (meaning (used r)) (λ k l. pairsAt-low H r inside-places k (omega arith))
+      newest-cong (suc H) (pairsAt H r) (said (used r)) (λ k l. pairsAt-low H r inside-places k (omega arith))
       ∙ canon (PairOk n) (used r) (suc H) (used-proper (r .count) (le-refl (r .count)) (suc H) low)
     where
       low : (j : ℕ) → suc j ≡ r .count → place r j .last < suc H
@@ -134,7 +134,7 @@ module _ (H n : ℕ) (r : Record) (whole : length (r .places) ≡ 64) (ok : Prop
       (stretches-longest H (pairsAt H r) x)
 
   -- "the count is that of the stretches as defined"
-  pub count-longest : r .count ≡ starts (suc H) (pairsAt H r)
+  pub count-longest : r .count ≡ firstAges (suc H) (pairsAt H r)
   count-longest = sym count-used ∙ stretches-count H (pairsAt H r)
 
   unused-blank : drop (r .count) (r .places) ≡ replicate (64 - r .count) blank
@@ -263,8 +263,8 @@ module _ (room H n : ℕ) (f : Pairs) (ok : (k : ℕ) → k ≤ suc H → PairOk
       go : Dec (k ≤ H) → pairsAt H r k ≡ f k
       go (yes b) =
           pairsAt-low H r inside-of k b
-          ∙ ap (λ (L : List Stretch). meaning L k) used-of
-          ∙ meaning-newest (PairOk n) (pairOk-empty n) (suc H) f (λ j b. ok j (omega arith)) k (omega arith)
+          ∙ ap (λ (L : List Stretch). said L k) used-of
+          ∙ said-newest (PairOk n) (pairOk-empty n) (suc H) f (λ j b. ok j (omega arith)) k (omega arith)
       go (no b) = let e : k ≡ suc H = omega arith in
           ap (pairsAt H r) e ∙ pairsAt-above H r ∙ ap f (sym e)
 
@@ -274,7 +274,7 @@ module _ (room H n : ℕ) (f : Pairs) (ok : (k : ℕ) → k ≤ suc H → PairOk
     room-low = low;
     room-high = high;
     fits = fits;
-    each = λ i l. good-held H n (place r i) (index-good (PairOk n) (r .places) (r .count) inside-of list i l);
+    each = λ i l. good-ok H n (place r i) (index-good (PairOk n) (r .places) (r .count) inside-of list i l);
     rising = λ i l. index-next (PairOk n) (r .places) (r .count) (suc H) inside-of list i l .0;
     differ = λ i l. index-next (PairOk n) (r .places) (r .count) (suc H) inside-of list i l .1;
     above = ok (suc H) (le-refl (suc H));

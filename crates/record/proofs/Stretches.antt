@@ -1,7 +1,7 @@
 -- The list of stretches that `newest` makes. What a loop over pieces of ages uses: `newest-run` (a piece at once),
 -- `newest-skip` (ages where nothing is possible), `newest-cong`, `newest-length`. Then the list and what it says of each age
--- (`meaning`): a proper list is that of its own meaning (`canon`), and the list of f is proper and says f (`newest-proper`,
--- `meaning-newest`). `P` is what is known of every pair. Assumes nothing.
+-- (`said`): a proper list is that of what it says (`canon`), and the list of f is proper and says f (`newest-proper`,
+-- `said-newest`). `P` is what is known of every pair. Assumes nothing.
 use Prim.Native.Nat.{ℕ, zero, suc, _≤_, _<_}
 use mathlib.Core.Path.{_≡_, refl, sym, ap, ap₂, _∙_, subst}
 use mathlib.Core.Logic.{_↔_, _≢_, Iff·trans}
@@ -122,18 +122,18 @@ newest-length f m n l = le-ind (λ (k : ℕ). length (newest m f) ≤ length (ne
 
 -- ---- what a list of stretches says of an age: the pair of the first stretch that has it in it
 
-unfoldable pub meaning : List Stretch → Pairs
-meaning [] k = noPair
-meaning (x ∷ xs) k = cond (inside x k) (x .pair) (meaning xs k)
+unfoldable pub said : List Stretch → Pairs
+said [] k = noPair
+said (x ∷ xs) k = cond (inside x k) (x .pair) (said xs k)
 
-pub meaning-in : (x : Stretch) (xs : List Stretch) (k : ℕ) → x .first ≤ k → k ≤ x .last → meaning (x ∷ xs) k ≡ x .pair
-unfolding meaning
-meaning-in x xs k l h = ap (λ (t : Bool). cond t (x .pair) (meaning xs k)) (is-true (inside x k) (inside-iff x k .1 (l, h)))
+pub said-in : (x : Stretch) (xs : List Stretch) (k : ℕ) → x .first ≤ k → k ≤ x .last → said (x ∷ xs) k ≡ x .pair
+unfolding said
+said-in x xs k l h = ap (λ (t : Bool). cond t (x .pair) (said xs k)) (is-true (inside x k) (inside-iff x k .1 (l, h)))
 
-pub meaning-out : (x : Stretch) (xs : List Stretch) (k : ℕ) → ¬ ((x .first ≤ k) × (k ≤ x .last))
-    → meaning (x ∷ xs) k ≡ meaning xs k
-unfolding meaning
-meaning-out x xs k n = ap (λ (t : Bool). cond t (x .pair) (meaning xs k)) (is-false (inside x k) (λ h. n (inside-iff x k .0 h)))
+pub said-out : (x : Stretch) (xs : List Stretch) (k : ℕ) → ¬ ((x .first ≤ k) × (k ≤ x .last))
+    → said (x ∷ xs) k ≡ said xs k
+unfolding said
+said-out x xs k n = ap (λ (t : Bool). cond t (x .pair) (said xs k)) (is-false (inside x k) (λ h. n (inside-iff x k .0 h)))
 
 -- ---- proper lists, the newest first
 
@@ -154,40 +154,40 @@ module _ (P : Pair → Type 0) where
   ProperList b [] = Unit {0}
   ProperList b (x ∷ xs) = Good b x × Apart x xs × ProperList (x .first) xs
 
-  pub meaning-above : (L : List Stretch) (b k : ℕ) → ProperList b L → b ≤ k → meaning L k ≡ noPair
-  unfolding meaning
-  meaning-above [] b k h l = refl
-  meaning-above (x ∷ xs) b k h l =
-      meaning-out x xs k (λ i. omega (arith, h .0 .below))
-      ∙ meaning-above xs (x .first) k (h .2) (omega (arith, h .0 .below, h .0 .order))
+  pub said-above : (L : List Stretch) (b k : ℕ) → ProperList b L → b ≤ k → said L k ≡ noPair
+  unfolding said
+  said-above [] b k h l = refl
+  said-above (x ∷ xs) b k h l =
+      said-out x xs k (λ i. omega (arith, h .0 .below))
+      ∙ said-above xs (x .first) k (h .2) (omega (arith, h .0 .below, h .0 .order))
 
   pub put-apart : (x : Stretch) (xs : List Stretch) → Apart x xs → put xs (x .first) (x .last) (x .pair) ≡ x ∷ xs
   put-apart x [] h = refl
   put-apart x (y ∷ ys) h = ap (λ (t : Bool). putIf t y ys (x .first) (x .last) (x .pair))
       (is-false (touches y (x .first) (x .pair)) (λ t. let e = touches-iff y (x .first) (x .pair) .0 t in h (e .0) (e .1)))
 
-  -- a proper list is the list of the stretches of its meaning
-  pub canon : (L : List Stretch) (b : ℕ) → ProperList b L → newest b (meaning L) ≡ L
-  unfolding newest meaning
-  canon [] b h = newest-skip (meaning []) 0 b (omega arith) (λ k l m. refl)
+  -- a proper list is the list of the stretches of what it says
+  pub canon : (L : List Stretch) (b : ℕ) → ProperList b L → newest b (said L) ≡ L
+  unfolding newest said
+  canon [] b h = newest-skip (said []) 0 b (omega arith) (λ k l m. refl)
   canon (x ∷ xs) b h = steps (canon xs (x .first) (h .2))
     where
       f : Pairs
-      f = meaning (x ∷ xs)
+      f = said (x ∷ xs)
 
       -- above x there is nothing, and below it what xs say
       above : (k : ℕ) → suc (x .last) ≤ k → f k ≡ noPair
       above k l =
-          meaning-out x xs k (λ i. omega arith)
-          ∙ meaning-above xs (x .first) k (h .2) (omega (arith, h .0 .order))
+          said-out x xs k (λ i. omega arith)
+          ∙ said-above xs (x .first) k (h .2) (omega (arith, h .0 .order))
 
-      below : newest (x .first) f ≡ newest (x .first) (meaning xs)
-      below = newest-cong (x .first) f (meaning xs) (λ k l. meaning-out x xs k (λ i. omega arith))
+      below : newest (x .first) f ≡ newest (x .first) (said xs)
+      below = newest-cong (x .first) f (said xs) (λ k l. said-out x xs k (λ i. omega arith))
 
-      steps : newest (x .first) (meaning xs) ≡ xs → newest b f ≡ x ∷ xs
+      steps : newest (x .first) (said xs) ≡ xs → newest b f ≡ x ∷ xs
       steps ih =
           newest-skip f (suc (x .last)) b (h .0 .below) (λ k l u. ap (λ (p : Pair). p .possible) (above k l))
-          ∙ newest-run f (x .first) (x .last) (x .pair) (h .0 .order) (λ k l u. meaning-in x xs k l u)
+          ∙ newest-run f (x .first) (x .last) (x .pair) (h .0 .order) (λ k l u. said-in x xs k l u)
           ∙ ap (λ (L : List Stretch). push L (x .first) (x .last) (x .pair)) (below ∙ ih)
           ∙ push-some xs (x .first) (x .last) (x .pair) (h .0 .some)
           ∙ put-apart x xs (h .1)
@@ -233,36 +233,36 @@ module _ (P : Pair → Type 0) where
 
   -- ---- the list of f says f, where a pair with nothing possible is the pair of two empty sets
 
-  put-in : (L : List Stretch) (a b : ℕ) (p : Pair) → ProperList a L → (k : ℕ) → a ≤ k → k ≤ b → meaning (put L a b p) k ≡ p
-  put-in [] a b p h k l u = meaning-in (stretch a b p) [] k l u
+  put-in : (L : List Stretch) (a b : ℕ) (p : Pair) → ProperList a L → (k : ℕ) → a ≤ k → k ≤ b → said (put L a b p) k ≡ p
+  put-in [] a b p h k l u = said-in (stretch a b p) [] k l u
   put-in (x ∷ xs) a b p h k l u = go (touches x a p)
     where
-      go : (t : Bool) → meaning (putIf t x xs a b p) k ≡ p
-      go true = meaning-in (stretch (x .first) b p) xs k (omega (arith, h .0 .below, h .0 .order)) u
-      go false = meaning-in (stretch a b p) (x ∷ xs) k l u
+      go : (t : Bool) → said (putIf t x xs a b p) k ≡ p
+      go true = said-in (stretch (x .first) b p) xs k (omega (arith, h .0 .below, h .0 .order)) u
+      go false = said-in (stretch a b p) (x ∷ xs) k l u
 
   put-below : (L : List Stretch) (a b : ℕ) (p : Pair) → a ≤ b → ProperList a L
-      → (k : ℕ) → k < a → meaning (put L a b p) k ≡ meaning L k
-  put-below [] a b p ab h k l = meaning-out (stretch a b p) [] k (λ i. omega arith)
+      → (k : ℕ) → k < a → said (put L a b p) k ≡ said L k
+  put-below [] a b p ab h k l = said-out (stretch a b p) [] k (λ i. omega arith)
   put-below (x ∷ xs) a b p ab h k l = go (touches x a p) refl
     where
-      go : (t : Bool) → touches x a p ≡ t → meaning (putIf t x xs a b p) k ≡ meaning (x ∷ xs) k
-      go false e = meaning-out (stretch a b p) (x ∷ xs) k (λ i. omega arith)
+      go : (t : Bool) → touches x a p ≡ t → said (putIf t x xs a b p) k ≡ said (x ∷ xs) k
+      go false e = said-out (stretch a b p) (x ∷ xs) k (λ i. omega arith)
       go true e = low (touches-iff x a p .0 (subst Is (sym e) tt)) (decLe (x .first) k)
         where
           y : Stretch
           y = stretch (x .first) b p
 
-          low : (suc (x .last) ≡ a) × (x .pair ≡ p) → Dec (x .first ≤ k) → meaning (y ∷ xs) k ≡ meaning (x ∷ xs) k
-          low t (yes c) = meaning-in y xs k c (omega arith) ∙ sym (t .1) ∙ sym (meaning-in x xs k c (omega arith))
-          low t (no c) = meaning-out y xs k (λ i. c (i .0)) ∙ sym (meaning-out x xs k (λ i. c (i .0)))
+          low : (suc (x .last) ≡ a) × (x .pair ≡ p) → Dec (x .first ≤ k) → said (y ∷ xs) k ≡ said (x ∷ xs) k
+          low t (yes c) = said-in y xs k c (omega arith) ∙ sym (t .1) ∙ sym (said-in x xs k c (omega arith))
+          low t (no c) = said-out y xs k (λ i. c (i .0)) ∙ sym (said-out x xs k (λ i. c (i .0)))
 
   module _ (empty : (p : Pair) → P p → p .possible ≡ 0 → p ≡ noPair) where
-    pub meaning-newest : (n : ℕ) (f : Pairs) → ((k : ℕ) → k < n → P (f k)) → (k : ℕ) → k < n → meaning (newest n f) k ≡ f k
+    pub said-newest : (n : ℕ) (f : Pairs) → ((k : ℕ) → k < n → P (f k)) → (k : ℕ) → k < n → said (newest n f) k ≡ f k
     unfolding newest
-    meaning-newest zero f h k l = absurd (let z : ⊥ = omega arith in z)
-    meaning-newest (suc n) f h k l = go (ℕ-discrete (f n .possible) 0) (ℕ-discrete k n)
-        (meaning-newest n f (λ j b. h j (omega arith)) k)
+    said-newest zero f h k l = absurd (let z : ⊥ = omega arith in z)
+    said-newest (suc n) f h k l = go (ℕ-discrete (f n .possible) 0) (ℕ-discrete k n)
+        (said-newest n f (λ j b. h j (omega arith)) k)
       where
         L : List Stretch
         L = newest n f
@@ -270,9 +270,9 @@ module _ (P : Pair → Type 0) where
         proper : ProperList n L
         proper = newest-proper n f (λ j b. h j (omega arith))
 
-        go : Dec (f n .possible ≡ 0) → Dec (k ≡ n) → (k < n → meaning L k ≡ f k) → meaning (push L n n (f n)) k ≡ f k
+        go : Dec (f n .possible ≡ 0) → Dec (k ≡ n) → (k < n → said L k ≡ f k) → said (push L n n (f n)) k ≡ f k
         go (yes e) (yes d) ih = rw (push-none L n n (f n) e) (
-            meaning-above L n k proper (omega arith)
+            said-above L n k proper (omega arith)
             ∙ sym (empty (f n) (h n (omega arith)) e)
             ∙ ap f (sym d))
         go (yes e) (no d) ih = rw (push-none L n n (f n) e) (ih (omega arith))

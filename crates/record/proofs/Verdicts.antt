@@ -1,6 +1,7 @@
--- What the verdict and `settled` say of the two sets that the pairs stand for (`verdict-yes`, `verdict-no`, `settled-same`).
+-- What the verdict and `settled` say of the two sets that the pairs mean (`verdict-yes`, `verdict-no`, `settled-same`).
 -- Hence demand 2, for what has become of a start's pairs (`start-yes`, `start-no`), and demand 3, for what has become of a
--- gap's, said of every set that may have stood at its end (`gap-yes`, `gap-no`, `gap-unsure`, `gap-settled`). Assumes nothing.
+-- gap's, said of every set that may have stood at its end (`gap-yes`, `gap-no`, `gap-unsure`, `gap-differ`,
+-- `gap-settled`). Assumes nothing.
 use Prim.Native.Nat.{ℕ, suc}
 use mathlib.Core.Path.{_≡_, refl, ap}
 use mathlib.Core.Logic.{_↔_, _≢_, Iff·trans, Iff·symm, Iff·not, Iff·and}
@@ -13,11 +14,11 @@ use Rattle.meaning.specs.Runs.{Word, Accepted}
 use Rattle.meaning.specs.Sets.{Confs, after, Accepts, Initial, Nothing, Everything, Over, Same}
 use Rattle.meaning.specs.Ages.{acceptsAt}
 use Rattle.meaning.proofs.Runs.{accepted-iff}
-use Rattle.meaning.proofs.Sets.{accepts-mono, yes-iff, no-iff, settled-iff}
-use Rattle.meaning.proofs.Ages.{accepts-stands, settled-stands}
+use Rattle.meaning.proofs.Sets.{accepts-mono, after-between, yes-iff, no-iff, settled-iff}
+use Rattle.meaning.proofs.Ages.{accepts-means, settled-means}
 use Rattle.record.specs.Pairs.{Pairs, sures, possibles, startPairs, gapPairs, afterPairs}
 use Rattle.record.specs.Verdicts.{Verdict, says-yes, says-no, unsure, decide, verdictAt, settledAt}
-use Rattle.record.proofs.Pairs.{Stands, start-stands, gap-stands, after-stand}
+use Rattle.record.proofs.Pairs.{MeanBoth, start-means, gap-means, after-mean}
 
 -- the three verdicts are three
 code : Verdict → ℕ
@@ -40,6 +41,12 @@ decide-no true p h = ((λ e. absurd (differ says-yes says-no (λ z. omega arith)
 decide-no false true h = ((λ e. absurd (differ unsure says-no (λ z. omega arith) e)), λ n. absurd (n tt))
 decide-no false false h = ((λ e z. z), λ n. refl)
 
+decide-unsure : (s p : Bool) → (decide s p ≡ unsure) ↔ ((¬ Is s) × Is p)
+unfolding code
+decide-unsure true p = ((λ e. absurd (differ says-yes unsure (λ z. omega arith) e)), λ h. absurd (h .0 tt))
+decide-unsure false true = ((λ e. ((λ z. z), tt)), λ h. refl)
+decide-unsure false false = ((λ e. absurd (differ says-no unsure (λ z. omega arith) e)), λ h. absurd (h .1))
+
 -- "unsure otherwise"
 pub unsure-iff : (v : Verdict) → (v ≡ unsure) ↔ ((v ≢ says-yes) × (v ≢ says-no))
 unfolding code
@@ -47,12 +54,12 @@ unsure-iff says-yes = ((λ e. absurd (differ says-yes unsure (λ z. omega arith)
 unsure-iff says-no = ((λ e. absurd (differ says-no unsure (λ z. omega arith) e)), λ h. absurd (h .1 refl))
 unsure-iff unsure = ((λ e. (differ unsure says-yes (λ z. omega arith), differ unsure says-no (λ z. omega arith))), λ h. refl)
 
-module _ (T : Table) (f : Pairs) (A B : Confs) (s : Stands T f A B) where
+module _ (T : Table) (f : Pairs) (A B : Confs) (s : MeanBoth T f A B) where
   sure : Is (acceptsAt T (sures f)) ↔ Accepts T A
-  sure = accepts-stands T (sures f) A (s .sure)
+  sure = accepts-means T (sures f) A (s .sure)
 
   possible : Is (acceptsAt T (possibles f)) ↔ Accepts T B
-  possible = accepts-stands T (possibles f) B (s .possible)
+  possible = accepts-means T (possibles f) B (s .possible)
 
   pub verdict-yes : (verdictAt T f ≡ says-yes) ↔ Accepts T A
   unfolding verdictAt
@@ -65,11 +72,15 @@ module _ (T : Table) (f : Pairs) (A B : Confs) (s : Stands T f A B) where
       sure-possible : Is (acceptsAt T (sures f)) → Is (acceptsAt T (possibles f))
       sure-possible h = possible .1 (accepts-mono T A B (s .within) (sure .0 h))
 
+  pub verdict-unsure : (verdictAt T f ≡ unsure) ↔ ((¬ Accepts T A) × Accepts T B)
+  unfolding verdictAt
+  verdict-unsure = Iff·trans (decide-unsure (acceptsAt T (sures f)) (acceptsAt T (possibles f))) (Iff·and (Iff·not sure) possible)
+
   pub settled-same : Is (settledAt T f) ↔ Same (horizon T) A B
   unfolding settledAt
   settled-same = Iff·trans (all-iff (suc (suc (horizon T))) (λ k. eqb (f k .sure) (f k .possible)))
       (Iff·trans ((λ h k l. one k .0 (h k (omega arith))), λ h k l. one k .1 (h k (omega arith)))
-      (settled-stands (horizon T) (sures f) (possibles f) A B (s .sure) (s .possible)))
+      (settled-means (horizon T) (sures f) (possibles f) A B (s .sure) (s .possible)))
     where
       one : (k : ℕ) → Is (eqb (f k .sure) (f k .possible)) ↔ (f k .sure ≡ f k .possible)
       one k = eqb-iff (f k .sure) (f k .possible)
@@ -83,8 +94,8 @@ module _ (T : Table) (w : Word) where
   abbrev startSet : Confs
   startSet = after T (Initial T) w
 
-  after-start : Stands T sinceStart startSet startSet
-  after-start = after-stand T (startPairs T) (Initial T) (Initial T) (start-stands T) w
+  after-start : MeanBoth T sinceStart startSet startSet
+  after-start = after-mean T (startPairs T) (Initial T) (Initial T) (start-means T) w
 
   -- yes exactly when some accepting run exists over the symbols
   pub start-yes : (verdictAt T sinceStart ≡ says-yes) ↔ Accepted T w
@@ -110,8 +121,8 @@ module _ (T : Table) (w : Word) where
   abbrev greatest : Confs
   greatest = after T (Everything T) w
 
-  after-gap : Stands T sinceGap least greatest
-  after-gap = after-stand T (gapPairs T) Nothing (Everything T) (gap-stands T) w
+  after-gap : MeanBoth T sinceGap least greatest
+  after-gap = after-mean T (gapPairs T) Nothing (Everything T) (gap-means T) w
 
   -- yes exactly if the symbols since lead to acceptance from every such set
   pub gap-yes : (verdictAt T sinceGap ≡ says-yes) ↔ ((S : Confs) → Over T S → Accepts T (after T S w))
@@ -125,6 +136,20 @@ module _ (T : Table) (w : Word) where
   pub gap-unsure : (verdictAt T sinceGap ≡ unsure)
       ↔ ((¬ ((S : Confs) → Over T S → Accepts T (after T S w))) × (¬ ((S : Confs) → Over T S → ¬ Accepts T (after T S w))))
   gap-unsure = Iff·trans (unsure-iff (verdictAt T sinceGap)) (Iff·and (Iff·not gap-yes) (Iff·not gap-no))
+
+  -- and then it goes by the set: one leads to acceptance and one does not
+  pub gap-differ : (verdictAt T sinceGap ≡ unsure)
+      ↔ (((S : Confs) × Over T S × Accepts T (after T S w)) × ((S : Confs) × Over T S × (¬ Accepts T (after T S w))))
+  gap-differ = Iff·trans (verdict-unsure T sinceGap least greatest after-gap) (to, from)
+    where
+      to : (¬ Accepts T least) × Accepts T greatest
+          → ((S : Confs) × Over T S × Accepts T (after T S w)) × ((S : Confs) × Over T S × (¬ Accepts T (after T S w)))
+      to (n, a) = ((Everything T, (λ q t h. h), a), (Nothing, (λ q t h. absurd h), n))
+
+      from : ((S : Confs) × Over T S × Accepts T (after T S w)) × ((S : Confs) × Over T S × (¬ Accepts T (after T S w)))
+          → (¬ Accepts T least) × Accepts T greatest
+      from ((R, r, a), (S, s, n)) =
+          ((λ h. n (yes-iff T w .1 h S s)), accepts-mono T (after T R w) greatest (after-between T R r w .1) a)
 
   -- settled exactly if all those sets led to one and the same set, ages beyond the horizon counted as one
   pub gap-settled : Is (settledAt T sinceGap)

@@ -14,6 +14,7 @@ Pairs = ℕ → Pair
 abbrev pub noPair : Pair
 noPair = record { sure = 0; possible = 0 }
 
+-- the sure set alone, by age, and the possible one
 abbrev pub sures : Pairs → ℕ → ℕ
 sures f k = f k .sure
 

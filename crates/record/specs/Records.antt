@@ -23,6 +23,7 @@ blank = record { first = 0; last = 0; pair = noPair }
 abbrev pub blankRecord : Record
 blankRecord = record { room = 0; count = 0; places = replicate 64 blank; above = noPair }
 
+-- place i, the first being place 0
 abbrev pub place : Record → ℕ → Stretch
 place r i = getD (r .places) i blank
 
@@ -32,7 +33,8 @@ place r i = getD (r .places) i blank
 unfoldable pub inside : Stretch → ℕ → Bool
 inside x k = leb (x .first) k && leb k (x .last)
 
--- the pair of the age k in the first n places; two empty sets where none of them has it in it
+-- the pair of the age k in the first n places; two empty sets where none of them has it in it. In a proper record at most one
+-- place has it
 unfoldable pub pairIn : List Stretch → ℕ → ℕ → Pair
 pairIn l zero k = noPair
 pairIn l (suc n) k = cond (inside (getD l n blank) k) (getD l n blank .pair) (pairIn l n k)
@@ -41,7 +43,7 @@ pairIn l (suc n) k = cond (inside (getD l n blank) k) (getD l n blank .pair) (pa
 unfoldable pub pairsAt : ℕ → Record → Pairs
 pairsAt H r k = cond (leb k H) (pairIn (r .places) (r .count) k) (r .above)
 
--- ---- which record holds the pairs f: "its room, the count of stretches, each stretch's first and last age and its pair, and
+-- ---- which record holds the pairs f: "its room .., the count of stretches, each stretch's first and last age and its pair, and
 -- one pair for all ages above H. Its 64 places are held with it; those beyond the count are all zero."
 unfoldable pub recordOf : ℕ → ℕ → Pairs → Record
 recordOf room H f =
@@ -52,7 +54,8 @@ recordOf room H f =
       above = f (suc H);
     }
 
--- ---- a proper record, clause by clause; H is the horizon and n the number of states
+-- ---- a proper record, clause by clause; H is the horizon and n the number of states. That there are 64 places is the array's
+-- type, so no clause asks it
 
 -- "in every pair .. the sure set is part of the possible set and no state is n or above"
 pub record PairOk (n : ℕ) (p : Pair) : Type 0 where
@@ -60,7 +63,7 @@ pub record PairOk (n : ℕ) (p : Pair) : Type 0 where
   pub small : p .possible < 2 ^ n
 
 -- "each within 0 to H with its first age at most its last, possible set non-empty"
-pub record Held (H n : ℕ) (x : Stretch) : Type 0 where
+pub record StretchOk (H n : ℕ) (x : Stretch) : Type 0 where
   pub pair : PairOk n (x .pair)
   pub within : x .last ≤ H
   pub order : x .first ≤ x .last
@@ -72,34 +75,38 @@ pub record Proper (H n : ℕ) (r : Record) : Type 0 where
   pub room-low : 1 ≤ r .room
   pub room-high : r .room ≤ 64
   pub fits : r .count ≤ r .room
-  pub each : (i : ℕ) → i < r .count → Held H n (place r i)
+  pub each : (i : ℕ) → i < r .count → StretchOk H n (place r i)
   pub rising : (i : ℕ) → suc i < r .count → place r i .last < place r (suc i) .first
   pub differ : (i : ℕ) → suc i < r .count → suc (place r i .last) ≡ place r (suc i) .first → place r i .pair ≢ place r (suc i) .pair
   pub above : PairOk n (r .above)
   pub unused : (i : ℕ) → r .count ≤ i → i < 64 → place r i ≡ blank
 
--- ---- the same as a test; the names are those of the clauses
+-- ---- the same as a test
 
+-- `PairOk`: the sure set adds nothing to the possible one, which has no bit for state n or above
 unfoldable pub pairOkb : ℕ → Pair → Bool
 pairOkb n p = eqb (bitOr (p .sure) (p .possible)) (p .possible) && ltb (p .possible) (2 ^ n)
 
-unfoldable pub heldb : ℕ → ℕ → Stretch → Bool
-heldb H n x = pairOkb n (x .pair) && leb (x .last) H && leb (x .first) (x .last) && not (eqb (x .pair .possible) 0)
+-- `StretchOk`
+unfoldable pub stretchOkb : ℕ → ℕ → Stretch → Bool
+stretchOkb H n x = pairOkb n (x .pair) && leb (x .last) H && leb (x .first) (x .last) && not (eqb (x .pair .possible) 0)
 
--- y may follow x: it lies above x, and differs in its pair where it touches x
+-- `rising` and `differ`: y may follow x, as it lies above x and differs in its pair where it touches x
 unfoldable pub followsb : Stretch → Stretch → Bool
 followsb x y = ltb (x .last) (y .first) && not (eqb (suc (x .last)) (y .first) && samePair (x .pair) (y .pair))
 
+-- `unused`
 unfoldable pub blankb : Stretch → Bool
 blankb x = eqb (x .first) 0 && eqb (x .last) 0 && samePair (x .pair) noPair
 
--- place i: in use it is held and follows the one before it, if there is one; otherwise it is zero
+-- place i: in use it is a proper stretch and may follow the one before it, if there is one; otherwise it is zero
 unfoldable pub placeOkb : ℕ → ℕ → Record → ℕ → Bool
 placeOkb H n r i =
     cond (ltb i (r .count))
-    (heldb H n (place r i) && (eqb i 0 || followsb (place r (i - 1)) (place r i)))
+    (stretchOkb H n (place r i) && (eqb i 0 || followsb (place r (i - 1)) (place r i)))
     (blankb (place r i))
 
+-- `Proper`
 unfoldable pub properb : ℕ → ℕ → Record → Bool
 properb H n r =
     leb 1 (r .room) && leb (r .room) 64

@@ -26,17 +26,18 @@ pub record LongestRun (H : ℕ) (f : Pairs) (x : Stretch) : Type 0 where
 abbrev pub samePair : Pair → Pair → Bool
 samePair p q = eqb (p .sure) (q .sure) && eqb (p .possible) (q .possible)
 
--- a longest run starts at age k: its possible set is not empty, and the age before it has another pair or is none
-unfoldable pub startsAt : Pairs → ℕ → Bool
-startsAt f zero = not (eqb (f 0 .possible) 0)
-startsAt f (suc k) = not (eqb (f (suc k) .possible) 0) && not (samePair (f k) (f (suc k)))
+-- k is the first age of a longest run: its possible set is not empty, and the age before has another pair, or there is none
+unfoldable pub firstAgeAt : Pairs → ℕ → Bool
+firstAgeAt f zero = not (eqb (f 0 .possible) 0)
+firstAgeAt f (suc k) = not (eqb (f (suc k) .possible) 0) && not (samePair (f k) (f (suc k)))
 
--- how many longest runs start at the ages below n
-unfoldable pub starts : ℕ → Pairs → ℕ
-starts zero f = 0
-starts (suc n) f = starts n f + cond (startsAt f n) 1 0
+-- how many ages below n are the first of a longest run
+unfoldable pub firstAges : ℕ → Pairs → ℕ
+firstAges zero f = 0
+firstAges (suc n) f = firstAges n f + cond (firstAgeAt f n) 1 0
 
--- ---- the list, age by age
+-- ---- the list, age by age. What it has to be believed for is `LongestRun`: `stretches-longest` and `stretches-rising` prove that
+-- it has exactly those, in rising order
 
 -- the ages a to b with the pair p
 abbrev pub stretch : ℕ → ℕ → Pair → Stretch
@@ -51,6 +52,7 @@ abbrev pub putIf : Bool → Stretch → List Stretch → ℕ → ℕ → Pair �
 putIf true x xs a b p = stretch (x .first) b p ∷ xs
 putIf false x xs a b p = stretch a b p ∷ x ∷ xs
 
+-- behind the stretches, the newest first
 abbrev pub put : List Stretch → ℕ → ℕ → Pair → List Stretch
 put [] a b p = stretch a b p ∷ []
 put (x ∷ xs) a b p = putIf (touches x a p) x xs a b p
