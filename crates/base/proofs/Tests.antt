@@ -1,9 +1,9 @@
--- What a test says, as a fact: `eqb-iff`, `leb-iff`, `ltb-iff` for two numbers, `beq-iff` for two flags, `and-iff`, `or-iff` and
--- `not-iff` for tests put together, `all-iff` for a test of all numbers below n. `is-true` and `is-false` go from the fact to
+-- What a test says, as a fact: `eqb-iff`, `ne-iff`, `leb-iff`, `ltb-iff` for two numbers, `beq-iff` for two flags, `and-iff`, `or-iff`
+-- and `not-iff` for tests put together, `all-iff` for a test of all numbers below n. `is-true` and `is-false` go from the fact to
 -- the test's value. Assumes nothing.
 use Prim.Native.Nat.{ℕ, zero, suc, _≤_, _<_}
 use mathlib.Core.Path.{_≡_, refl, sym, subst}
-use mathlib.Core.Logic.{_↔_, _⊎_, inl, inr, ⊎-elim, Iff·rfl}
+use mathlib.Core.Logic.{_↔_, _⊎_, inl, inr, _≢_, ⊎-elim, Iff·rfl, Iff·trans, Iff·not}
 use mathlib.Core.Bool.{Bool, true, false, _&&_, _||_, not, Bool·beq, true≢false, false≢true}
 use native.Mathlib.Nat.{not-suc-le-zero}
 use native.Mathlib.Decide.{ℕ-discrete}
@@ -37,6 +37,9 @@ ltb-iff m n = (ltb→lt m n, lt→ltb m n)
 
 pub not-iff : (b : Bool) → Is (not b) ↔ (¬ Is b)
 not-iff b = (T-not b, not-T b)
+
+pub ne-iff : (m n : ℕ) → Is (not (eqb m n)) ↔ (m ≢ n)
+ne-iff m n = Iff·trans (not-iff (eqb m n)) (Iff·not (eqb-iff m n))
 
 pub beq-iff : (a b : Bool) → Is (Bool·beq a b) ↔ (a ≡ b)
 beq-iff true true = ((λ h. refl), λ e. tt)

@@ -3,7 +3,7 @@
 -- and open none of the checks. Assumes nothing.
 use Prim.Native.Nat.{ℕ, _+_, _*_, _/_, _^_, _≤_, _<_}
 use mathlib.Core.Path.{_≡_}
-use mathlib.Core.Logic.{_↔_, _⊎_, inl, inr, Iff·trans, Iff·not}
+use mathlib.Core.Logic.{_↔_, _⊎_, inl, inr, Iff·trans}
 use mathlib.Core.List.{List}
 use mathlib.Core.Bool.{_&&_, not}
 use native.Mathlib.Nat.{div-eq-of-lt, div-lt-iff-lt-mul}
@@ -13,7 +13,7 @@ use lib.Dec.{T as Is, eqb, ltb}
 use lib.ListN.{length}
 use lib.Pow.{pow-pos}
 use borrow.Author.Tests.{eq-eqb, ne-eqb}
-use Rattle.base.proofs.Tests.{eqb-iff, ltb-iff, not-iff, and-iff}
+use Rattle.base.proofs.Tests.{ltb-iff, ne-iff, and-iff}
 use Rattle.base.proofs.Checks.{Fails, Passes, _or_, _and-then_, check, each, below, at-most, not-zero, equal}
 use Rattle.base.proofs.Masks.{most-le}
 use Rattle.table.specs.declared.Head.{Head}
@@ -37,7 +37,7 @@ bounded u = record { iff = (to (ℕ-discrete u noBound), from) }
   where
     past : Is (ltb longestAge u && not (eqb u noBound)) ↔ ((longestAge < u) × ¬ (u ≡ noBound))
     past = and-iff (ltb longestAge u) (not (eqb u noBound)) (ltb-iff longestAge u)
-        (Iff·trans (not-iff (eqb u noBound)) (Iff·not (eqb-iff u noBound)))
+        (ne-iff u noBound)
 
     to : Dec (u ≡ noBound) → ¬ Is (ltb longestAge u && not (eqb u noBound)) → (u ≡ noBound) ⊎ (u ≤ longestAge)
     to (yes e) h = inl e

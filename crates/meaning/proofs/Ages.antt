@@ -12,7 +12,7 @@ use native.Mathlib.Omega.{arith}
 use lib.Bits.{bitOr, bitAnd}
 use lib.Dec.{T as Is, eqb, leb, ltb}
 use Rattle.base.specs.Masks.{Has, hasb, pick, union, most}
-use Rattle.base.proofs.Tests.{eqb-iff, leb-iff, ltb-iff, beq-iff, not-iff, and-iff, or-iff, is-true, is-false}
+use Rattle.base.proofs.Tests.{eqb-iff, ne-iff, leb-iff, ltb-iff, beq-iff, not-iff, and-iff, or-iff, is-true, is-false}
 use Rattle.base.proofs.Masks.{has-or, has-and, has-bit, has-full, has-pick, has-cond, has-union, not-has-zero, ext-has, nonempty, hasb-iff, le-most, most-attained}
 use Rattle.table.specs.declared.Line.{Line}
 use Rattle.meaning.specs.Tables.{Table, noBound, Meets, resets, lineTop, horizon, acceptingAt}
@@ -371,7 +371,7 @@ accepts-means T f S means = (to, from)
     all = union (suc (suc H)) good
 
     to : Is (not (eqb all 0)) → Accepts T S
-    to h = go (nonempty all (λ e. not-iff (eqb all 0) .0 h (eqb-iff all 0 .1 e)))
+    to h = go (nonempty all (ne-iff all 0 .0 h))
       where
         go : (q : ℕ) × Has all q → Accepts T S
         go (q, k) = let u = has-union (suc (suc H)) good q .0 k in
@@ -380,7 +380,7 @@ accepts-means T f S means = (to, from)
             (q, c .0, subst (λ (m : ℕ). Has m q) (ap (acceptingAt T) (sym (c .1)) ∙ accepting-clip T (c .0)) (p .1), c .2)
 
     from : Accepts T S → Is (not (eqb all 0))
-    from (q, t, a, h) = not-iff (eqb all 0) .1 (λ e. not-has-zero q (subst (λ (x : ℕ). Has x q) (eqb-iff all 0 .0 e) one))
+    from (q, t, a, h) = ne-iff all 0 .1 (λ e. not-has-zero q (subst (λ (x : ℕ). Has x q) e one))
       where
         u : ℕ
         u = clip H t

@@ -11,7 +11,7 @@ use native.Mathlib.Decide.{ℕ-discrete, le-ind}
 use native.Mathlib.Omega.{arith}
 use lib.Dec.{T as Is, eqb}
 use lib.ListN.{length, length-reverse}
-use Rattle.base.proofs.Tests.{is-true, is-false, eqb-iff, not-iff, and-iff}
+use Rattle.base.proofs.Tests.{is-true, is-false, not-iff, ne-iff, and-iff}
 use Rattle.record.specs.declared.Pair.{Pair}
 use Rattle.record.specs.declared.Stretch.{Stretch}
 use Rattle.record.specs.Pairs.{Pairs}
@@ -305,7 +305,7 @@ module _ (f : Pairs) where
 
 -- ---- the list has exactly the longest runs
 
-mem-reverse : (x : Stretch) (L : List Stretch) → List·Memᴰ x (reverse L) ↔ List·Memᴰ x L
+mem-reverse : {A : Type 0} (x : A) (L : List A) → List·Memᴰ x (reverse L) ↔ List·Memᴰ x L
 mem-reverse x [] = ((λ m. m), λ m. m)
 mem-reverse x (y ∷ ys) = rw (reverse-cons y ys) (to (mem-reverse x ys), from (mem-reverse x ys))
   where
@@ -334,14 +334,11 @@ module _ (f : Pairs) where
   abbrev Different : ℕ → Type 0
   Different k = (j : ℕ) → suc j ≡ k → f j ≢ f k
 
-  some-iff : (k : ℕ) → Is (not (eqb (f k .possible) 0)) ↔ (f k .possible ≢ 0)
-  some-iff k = Iff·trans (not-iff (eqb (f k .possible) 0)) (Iff·not (eqb-iff (f k .possible) 0))
-
   firstAgeAt-iff : (k : ℕ) → Is (firstAgeAt f k) ↔ ((f k .possible ≢ 0) × Different k)
   unfolding firstAgeAt
-  firstAgeAt-iff zero = Iff·trans (some-iff 0) ((λ h. (h, λ j e. absurd (let z : ⊥ = omega arith in z))), λ h. h .0)
+  firstAgeAt-iff zero = Iff·trans (ne-iff (f 0 .possible) 0) ((λ h. (h, λ j e. absurd (let z : ⊥ = omega arith in z))), λ h. h .0)
   firstAgeAt-iff (suc k) = Iff·trans
-      (and-iff (not (eqb (f (suc k) .possible) 0)) (not (samePair (f k) (f (suc k)))) (some-iff (suc k)) other)
+      (and-iff (not (eqb (f (suc k) .possible) 0)) (not (samePair (f k) (f (suc k)))) (ne-iff (f (suc k) .possible) 0) other)
       ((λ h. (h .0, λ j e q. h .1 (ap f (sym (suc-inj e)) ∙ q))), λ h. (h .0, h .1 k refl))
     where
       other : Is (not (samePair (f k) (f (suc k)))) ↔ (f k ≢ f (suc k))

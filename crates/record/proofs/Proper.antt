@@ -8,7 +8,7 @@ use native.Mathlib.Omega.{arith}
 use lib.Bits.{bitOr}
 use lib.Dec.{T as Is, eqb, leb, ltb}
 use Rattle.base.specs.Masks.{Part, all}
-use Rattle.base.proofs.Tests.{eqb-iff, leb-iff, ltb-iff, not-iff, and-iff, or-iff, all-iff}
+use Rattle.base.proofs.Tests.{eqb-iff, leb-iff, ltb-iff, not-iff, and-iff, or-iff, all-iff, ne-iff}
 use Rattle.base.proofs.Masks.{part-or}
 use Rattle.record.specs.declared.Pair.{Pair}
 use Rattle.record.specs.declared.Stretch.{Stretch}
@@ -59,7 +59,7 @@ stretchOk-iff H n x = Iff·trans (and-iff (okb && withinb && orderb) someb (and-
     order = leb-iff (x .first) (x .last)
 
     some : Is someb ↔ (x .pair .possible ≢ 0)
-    some = Iff·trans (not-iff (eqb (x .pair .possible) 0)) (Iff·not (eqb-iff (x .pair .possible) 0))
+    some = ne-iff (x .pair .possible) 0
 
 -- y lies above x, and differs in its pair where it touches x
 abbrev Next : Stretch → Stretch → Type 0
