@@ -1,15 +1,21 @@
--- The definitions on small inputs, by computation: the stretches of some pairs, the record that holds them, and both sides of
--- each clause of a proper record. Assumes nothing.
+-- The definitions on small inputs, by computation: the stretches of some pairs, verdicts after a start and after a gap, the
+-- record that holds some pairs, and both sides of each clause of a proper record. Assumes nothing.
 use Prim.Native.Nat.{ℕ, _-_}
 use mathlib.Core.Path.{_≡_, refl}
 use mathlib.Core.List.{List, [], _∷_, _++_, map}
-use mathlib.Core.Bool.{true, false}
+use mathlib.Core.Bool.{true, false, cond}
+use lib.Dec.{leb}
 use lib.ListN.{length, getD, replicate}
-use Rattle.base.specs.Masks.{all}
+use Rattle.base.specs.Masks.{union, most, all}
+use Rattle.table.specs.Table.{headOf, lineAt}
+use Rattle.meaning.specs.Tables.{tableOf, horizon, acceptingAt}
+use Rattle.meaning.specs.Ages.{acceptsAt}
+use Rattle.meaning.proofs.Cases.{board}
 use Rattle.record.specs.declared.Pair.{Pair}
 use Rattle.record.specs.declared.Stretch.{Stretch}
 use Rattle.record.specs.declared.Record.{Record}
-use Rattle.record.specs.Pairs.{Pairs, noPair}
+use Rattle.record.specs.Pairs.{Pairs, noPair, startPairs, gapPairs}
+use Rattle.record.specs.Verdicts.{says-no, unsure, verdictAt, settledAt}
 use Rattle.record.specs.Stretches.{firstAgeAt, firstAges, stretch, touches, push, newest, stretchesOf}
 use Rattle.record.specs.Records.{blank, blankRecord, inside, pairIn, pairsAt, recordOf, pairOkb, stretchOkb, followsb, blankb, placeOkb, properb}
 
@@ -46,7 +52,21 @@ pub no-stretches : stretchesOf 5 (λ k. noPair) ≡ []
 unfolding touches push newest
 no-stretches = refl
 
--- ---- the record that holds them
+-- ---- verdicts, on the table of document 01, One session, whole
+
+-- after a gap it is unsure and open; a restart would say no, and be settled
+pub gap-is-no-restart :
+    ((verdictAt board (gapPairs board) ≡ unsure) × (settledAt board (gapPairs board) ≡ false))
+    × ((verdictAt board (startPairs board) ≡ says-no) × (settledAt board (startPairs board) ≡ true))
+unfolding verdictAt settledAt gapPairs startPairs acceptsAt union all board tableOf horizon most acceptingAt headOf lineAt
+gap-is-no-restart = ((refl, refl), (refl, refl))
+
+-- H is 5: what lies above it alone leaves it open
+pub open-above : settledAt board (λ k. cond (leb k 5) noPair maybe) ≡ false
+unfolding settledAt all board tableOf horizon most headOf lineAt
+open-above = refl
+
+-- ---- the record that holds given pairs
 
 -- the record with these stretches in its first places, and zeros behind
 abbrev pub made : ℕ → ℕ → List Stretch → Pair → Record
