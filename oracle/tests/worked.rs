@@ -83,7 +83,8 @@ fn the_example_is_this_session() {
     assert_eq!(shown("examples/board.lines"), OUTPUT);
 }
 
-/// Its lines were worked out by hand; the definitions of the library give the same.
+/// These lines were first printed here and then gone through by hand, entry by entry; the definitions of the library give
+/// them too.
 #[test]
 fn the_pump_and_its_lines() {
     let pump = bytes(&shown("examples/pump.hex"));

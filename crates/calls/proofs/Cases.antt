@@ -74,7 +74,7 @@ unfolding lines shown call entries settled left-open startFault recordFault lett
     headOf lineAt hasb union most all firstOf
 the-session = (refl, refl)
 
--- ---- a session of the other table: examples/pump.hex, whose lines were worked out by hand
+-- ---- a session of the other table: examples/pump.hex, whose lines the second program prints
 
 -- 1 second, start, 1 second, check, 2 seconds, start, 3 seconds, check, start, 4 seconds, check, a gap, check, 3 seconds, check,
 -- start, 7 seconds, check, start, check

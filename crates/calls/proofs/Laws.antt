@@ -25,7 +25,7 @@ use Rattle.record.proofs.Records.{count-used, recordOf-whole, recordOf-pairs, r
 use Rattle.record.proofs.Proper.{proper-iff}
 use Rattle.record.proofs.Pairs.{Ok, step-ok, start-ok, gap-ok}
 use Rattle.record.proofs.Counts.{start-count, gap-count, span-count}
-use Rattle.calls.specs.Calls.{pairsOf, holding, needed, stepped, startFault, recordFault, letterFault, spanFault, answer, startOf, letterOf, spanOf, gapOf, told, reply, countOf}
+use Rattle.calls.specs.Calls.{pairsOf, holding, needed, stepped, startFault, recordFault, letterFault, spanFault, answer, startOf, letterOf, spanOf, gapOf, told, replyNumber, reply, countOf}
 
 -- ---- when a call is accepted
 
@@ -113,7 +113,12 @@ module _ (b : List ℕ) where
     answer-number (recordFault b r) _ _,
   )
 
--- the record r has the room, is proper, and says the pairs f
+-- the same of a question
+pub reply-number : {A : Type 0} (n : ℕ) (a : A) → replyNumber (reply n a) ≡ n
+reply-number zero a = refl
+reply-number (suc n) a = refl
+
+-- the record r has the room and its 64 places, is proper, and says the pairs f
 pub record Holds (b : List ℕ) (room : ℕ) (f : Pairs) (r : Record) : Type 0 where
   pub same-room : r .room ≡ room
   pub whole : length (r .places) ≡ 64

@@ -18,7 +18,8 @@ use Rattle.table.specs.declared.Line.{Line}
 use Rattle.meaning.specs.Tables.{Table, noBound, Meets, resets, lineTop, horizon, acceptingAt}
 use Rattle.meaning.specs.Runs.{Symbol, letter, span, Word, empty, _▷_, Follows, Step}
 use Rattle.meaning.specs.Sets.{Confs, step, after, Accepts, Initial, Nothing, Everything, Beyond, Same}
-use Rattle.meaning.specs.Ages.{clip, Clipped, Means, meetsb, takes, image, freshAt, letterAt, passedAt, spanAt, stepAt, afterAt, initialAt, nothingAt, everythingAt, acceptsAt}
+use Rattle.meaning.specs.Ages.{clip, ages, Clipped, Means, meetsb, takes, image, freshAt, letterAt, passedAt, spanAt, stepAt, afterAt, initialAt, nothingAt, everythingAt, acceptsAt}
+use Rattle.meaning.proofs.Sets.{same-sym}
 
 -- ---- "All ages above H meet the same conditions."
 
@@ -54,7 +55,8 @@ pub horizon-attained : (T : Table)
     → (horizon T ≡ 0) ⊎ ((i : ℕ) × (i < T .lines)
     × ((T .line i .least ≡ horizon T) ⊎ ((T .line i .greatest ≢ noBound) × (T .line i .greatest ≡ horizon T))))
 unfolding horizon
-horizon-attained T = ⊎-map (λ e. e) (λ (i, l, e). (i, l, bound (T .line i) e)) (most-attained (T .lines) (λ k. lineTop (T .line k)))
+horizon-attained T =
+    ⊎-map (λ e. e) (λ (i, l, e). (i, l, bound (T .line i) e)) (most-attained (T .lines) (λ k. lineTop (T .line k)))
   where
     bound : (l : Line) {H : ℕ} → lineTop l ≡ H → (l .least ≡ H) ⊎ ((l .greatest ≢ noBound) × (l .greatest ≡ H))
     bound l {H} = by (eqb (l .greatest) noBound) refl
@@ -207,7 +209,7 @@ module _ (T : Table) (a : ℕ) (f : ℕ → ℕ) (S : Confs) (means : Means (hor
       kept = image T false a k (f k)
 
       reset : ℕ
-      reset = union (suc (suc H)) resetAt
+      reset = union (ages H) resetAt
 
       fresh : ℕ
       fresh = bitOr reset (T .standing)
@@ -224,7 +226,7 @@ module _ (T : Table) (a : ℕ) (f : ℕ → ℕ) (S : Confs) (means : Means (hor
               (s .1, s .2, inl (s .0, s .1, s .3, s .4))
 
           by-reset : k ≡ 0 → Has reset q → Now
-          by-reset z j = let u = has-union (suc (suc H)) resetAt q .0 j in
+          by-reset z j = let u = has-union (ages H) resetAt q .0 j in
               let s = led-step true (u .0) q (omega (arith, u .1)) (has-image T true a (u .0) (f (u .0)) q .0 (u .2)) in
               (0, omega arith, inl (s .0, s .1, s .3, s .4))
 
@@ -252,7 +254,7 @@ module _ (T : Table) (a : ℕ) (f : ℕ → ℕ) (S : Confs) (means : Means (hor
 
           by : (r : Bool) → resets (T .line (s .index)) ≡ r → Has mask q
           by true r = let z : 0 ≡ t = ap (λ (b : Bool). cond b 0 u) (sym r) ∙ s .aged in
-              new (omega arith) (inl (has-union (suc (suc H)) resetAt q .1 (v, omega arith, led true r)))
+              new (omega arith) (inl (has-union (ages H) resetAt q .1 (v, omega arith, led true r)))
           by false r = let z : u ≡ t = ap (λ (b : Bool). cond b 0 u) (sym r) ∙ s .aged in
               old (subst (λ (x : ℕ). Has (image T false a x (f x)) q) (ap (clip H) z ∙ e) (led false r))
 
@@ -273,7 +275,7 @@ span-means T H s f S means q k l = (to, from)
     gone u = pick (ltb H (u + s)) (f u)
 
     high : ℕ
-    high = union (suc (suc H)) gone
+    high = union (ages H) gone
 
     -- the age t of S has become t + s
     later : (t : ℕ) → clip H (t + s) ≡ k → S q t → Now
@@ -290,7 +292,7 @@ span-means T H s f S means q k l = (to, from)
             later (d .0) (omega (arith, d .1)) (d .2)
 
         above : Is (not (leb k H)) × Has high q → Now
-        above (b, j) = let u = has-union (suc (suc H)) gone q .0 j in
+        above (b, j) = let u = has-union (ages H) gone q .0 j in
             let p = has-pick (ltb H (u .0 + s)) (f (u .0)) q .0 (u .2) in
             let b′ : ¬ (k ≤ H) = λ z. not-iff (leb k H) .0 b (leb-iff k H .1 z) in
             let c : H < u .0 + s = ltb-iff H (u .0 + s) .0 (p .0) in
@@ -317,7 +319,7 @@ span-means T H s f S means q k l = (to, from)
         go (yes b) = inl (leb-iff k H .1 b, moved b)
         go (no b) = inr (
           not-iff (leb k H) .1 (λ z. b (leb-iff k H .0 z)),
-          has-union (suc (suc H)) gone q .1 (v, omega arith, passed b),
+          has-union (ages H) gone q .1 (v, omega arith, passed b),
         )
 
 -- ---- every symbol, and every word
@@ -368,13 +370,13 @@ accepts-means T f S means = (to, from)
     good k = bitAnd (f k) (acceptingAt T k)
 
     all : ℕ
-    all = union (suc (suc H)) good
+    all = union (ages H) good
 
     to : Is (not (eqb all 0)) → Accepts T S
     to h = go (nonempty all (ne-iff all 0 .0 h))
       where
         go : (q : ℕ) × Has all q → Accepts T S
-        go (q, k) = let u = has-union (suc (suc H)) good q .0 k in
+        go (q, k) = let u = has-union (ages H) good q .0 k in
             let p = has-and (f (u .0)) (acceptingAt T (u .0)) q .0 (u .2) in
             let c = means q (u .0) (omega (arith, u .1)) .0 (p .0) in
             (q, c .0, subst (λ (m : ℕ). Has m q) (ap (acceptingAt T) (sym (c .1)) ∙ accepting-clip T (c .0)) (p .1), c .2)
@@ -392,7 +394,7 @@ accepts-means T f S means = (to, from)
         accepting = subst (λ (m : ℕ). Has m q) (sym (accepting-clip T t)) a
 
         one : Has all q
-        one = has-union (suc (suc H)) good q .1 (u, omega arith, has-and (f u) (acceptingAt T u) q .1 (held, accepting))
+        one = has-union (ages H) good q .1 (u, omega arith, has-and (f u) (acceptingAt T u) q .1 (held, accepting))
 
 -- ---- the same set, ages above H taken as one
 
@@ -406,11 +408,8 @@ same-clipped H A B = (to, from)
         go (yes l) = (t, e, s .low q t l .0 h)
         go (no n) = let r = s .beyond q .0 (t, omega arith, h) in (r .0, omega (arith, r .1), r .2)
 
-    flip : {A B : Confs} → Same H A B → Same H B A
-    flip s = record { low = λ q t l. Iff·symm (s .low q t l); beyond = λ q. Iff·symm (s .beyond q) }
-
     to : Same H A B → (q k : ℕ) → Clipped H A q k ↔ Clipped H B q k
-    to s q k = (half s q k, half (flip s) q k)
+    to s q k = (half s q k, half (same-sym s) q k)
 
     low : {A B : Confs} → ((q k : ℕ) → Clipped H A q k ↔ Clipped H B q k) → (q t : ℕ) → t ≤ H → A q t → B q t
     low {A} {B} e q t l h = let r = e q t .0 (t, omega arith, h) in subst (λ (x : ℕ). B q x) (omega (arith, r .1)) (r .2)

@@ -23,9 +23,10 @@ use Rattle.meaning.proofs.Ages.{after-means, initial-means, accepts-mea
 unfoldable pub board : Table
 board = tableOf board-table
 
-pub board-horizon : horizon board ≡ 5
+-- of both its lines, and of line 0 alone, which has no upper bound
+pub board-horizon : (horizon board ≡ 5) × (horizon (tableOf (set board-table 11 1)) ≡ 0)
 unfolding board tableOf horizon most headOf lineAt
-board-horizon = refl
+board-horizon = (refl, refl)
 
 -- no byte at all, and so no line
 pub horizon-without-lines : horizon (tableOf []) ≡ 0
@@ -131,12 +132,14 @@ accepted-computes T w = Iff·trans
 
 -- a look after 6 seconds finds nothing fresh
 pub late-look-not-accepted : ¬ Accepted board (empty ▷ letter 0 ▷ span 6 ▷ letter 1)
-unfolding board tableOf headOf lineAt horizon most acceptingAt hasb union image freshAt letterAt passedAt spanAt stepAt afterAt acceptsAt
+unfolding board tableOf headOf lineAt horizon most acceptingAt hasb union image freshAt letterAt passedAt spanAt stepAt
+    afterAt acceptsAt
 late-look-not-accepted h = accepted-computes board (empty ▷ letter 0 ▷ span 6 ▷ letter 1) .1 h
 
 -- waiting is standing: a run begins directly after any letter, here after the first look
 pub begun-after-a-look : Accepted board (empty ▷ letter 1 ▷ letter 0)
-unfolding board tableOf headOf lineAt horizon most acceptingAt hasb union image freshAt letterAt passedAt spanAt stepAt afterAt acceptsAt
+unfolding board tableOf headOf lineAt horizon most acceptingAt hasb union image freshAt letterAt passedAt spanAt stepAt
+    afterAt acceptsAt
 begun-after-a-look = accepted-computes board (empty ▷ letter 1 ▷ letter 0) .0 tt
 
 -- ---- two readings that look right (document 01, Readings that look right)

@@ -9,6 +9,10 @@ use Rattle.meaning.specs.Tables.{Table}
 use Rattle.meaning.specs.Runs.{Symbol, letter, span, Word, empty, _▷_, Step}
 use Rattle.meaning.specs.Sets.{Confs, Within, Taken, step, after, Accepts, Nothing, Everything, Over, Beyond, Same}
 
+-- the same, the other way round
+pub same-sym : {H : ℕ} {A B : Confs} → Same H A B → Same H B A
+same-sym s = record { low = λ q t l. Iff·symm (s .low q t l); beyond = λ q. Iff·symm (s .beyond q) }
+
 module _ (T : Table) where
   taken-mono : (x : Symbol) (A B : Confs) → Within A B → Within (Taken T x A) (Taken T x B)
   taken-mono x A B h q u (p, t, k, s) = (p, t, h p t k, s)
@@ -66,9 +70,6 @@ module _ (T : Table) where
         low = λ q t l. (f q t, λ x. s .low q t l .1 (g q t x));
         beyond = λ q. (beyond-mono A X f q, λ x. s .beyond q .1 (beyond-mono X B g q x));
       }
-
-      same-sym : {A B : Confs} → Same H A B → Same H B A
-      same-sym s = record { low = λ q t l. Iff·symm (s .low q t l); beyond = λ q. Iff·symm (s .beyond q) }
 
       same-trans : {A B C : Confs} → Same H A B → Same H B C → Same H A C
       same-trans s r = record {

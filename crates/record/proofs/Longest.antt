@@ -16,7 +16,7 @@ use Rattle.record.specs.declared.Pair.{Pair}
 use Rattle.record.specs.declared.Stretch.{Stretch}
 use Rattle.record.specs.Pairs.{Pairs}
 use Rattle.record.specs.Stretches.{RunOfAges, LongestRun, samePair, firstAgeAt, firstAges, stretch, touches, putIf, put, push, newest, stretchesOf}
-use Rattle.record.proofs.Stretches.{samePair-iff, touches-iff, push-none, push-some, newest-run, Apart, ProperList, put-apart, newest-proper}
+use Rattle.record.proofs.Stretches.{samePair-iff, touches-iff, push-none, push-some, newest-run, Apart, ProperList, put-apart, Any, newest-any}
 
 -- a run of the ages below n that goes on at neither end
 pub record Ends (n : ℕ) (f : Pairs) (x : Stretch) : Type 0 where
@@ -138,13 +138,6 @@ mem-push x L a b p n m = go (ℕ-discrete (p .possible) 0)
     go : Dec (p .possible ≡ 0) → List·Memᴰ x (push L a b p)
     go (yes e) = rw (push-none L a b p e) m
     go (no c) = rw (push-some L a b p c) (mem-put x L a b p n m)
-
--- nothing is known of a pair
-abbrev Any : Pair → Type 0
-Any p = Unit {0}
-
-newest-any : (n : ℕ) (f : Pairs) → ProperList Any n (newest n f)
-newest-any n f = newest-proper Any n f (λ k l. tt)
 
 -- the newest stretch ends at the last age, where that has something possible, and has its pair
 head-of : (f : Pairs) (k : ℕ) → f k .possible ≢ 0 → (a : ℕ) × (ys : List Stretch) × (newest (suc k) f ≡ stretch a k (f k) ∷ ys)

@@ -49,7 +49,8 @@ module _ (T : Table) where
     within = λ q t z. absurd z;
   }
 
-  pub steps-mean : (x : Symbol) (f : Pairs) (A B : Confs) → MeanBoth T f A B → MeanBoth T (stepPairs T x f) (step T x A) (step T x B)
+  pub steps-mean : (x : Symbol) (f : Pairs) (A B : Confs) → MeanBoth T f A B
+      → MeanBoth T (stepPairs T x f) (step T x A) (step T x B)
   unfolding stepPairs
   steps-mean x f A B s = record {
     sure = step-means T x (sures f) A (s .sure);
@@ -63,17 +64,18 @@ module _ (T : Table) where
   after-mean f A B s empty = s
   after-mean f A B s (w ▷ x) = steps-mean x (afterPairs T f w) (after T A w) (after T B w) (after-mean f A B s w)
 
+  -- every pair of f is a proper one
+  abbrev pub Ok : Pairs → Type 0
+  Ok f = (k : ℕ) → k ≤ suc (horizon T) → PairOk (T .states) (f k)
+
   -- pairs that mean sets over the n states are proper ones
-  pub means-ok : (f : Pairs) (A B : Confs) → MeanBoth T f A B → Over T B → (k : ℕ) → k ≤ suc (horizon T) → PairOk (T .states) (f k)
+  pub means-ok : (f : Pairs) (A B : Confs) → MeanBoth T f A B → Over T B → Ok f
   means-ok f A B s o k l = record {
     part = λ q h. s .possible q k l .1 (let c = s .sure q k l .0 h in (c .0, c .1, s .within q (c .0) (c .2)));
     small = below-has (T .states) (f k .possible) (λ q h. let c = s .possible q k l .0 h in o q (c .0) (c .2));
   }
 
   -- ---- proper pairs stay proper
-
-  abbrev pub Ok : Pairs → Type 0
-  Ok f = (k : ℕ) → k ≤ suc (horizon T) → PairOk (T .states) (f k)
 
   -- the largest set that the masks f mean: at every age above H what f has at H + 1
   abbrev Full : (ℕ → ℕ) → Confs

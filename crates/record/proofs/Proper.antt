@@ -16,7 +16,7 @@ use Rattle.record.specs.declared.Record.{Record}
 use Rattle.record.specs.Pairs.{noPair}
 use Rattle.record.specs.Stretches.{samePair}
 use Rattle.record.specs.Records.{blank, place, PairOk, StretchOk, Proper, pairOkb, stretchOkb, followsb, blankb, placeOkb, properb}
-use Rattle.record.proofs.Stretches.{samePair-iff}
+use Rattle.record.proofs.Stretches.{samePair-iff, Next}
 
 pub pairOk-iff : (n : ℕ) (p : Pair) → Is (pairOkb n p) ↔ PairOk n p
 unfolding pairOkb
@@ -60,10 +60,6 @@ stretchOk-iff H n x = Iff·trans (and-iff (okb && withinb && orderb) someb (and-
 
     some : Is someb ↔ (x .pair .possible ≢ 0)
     some = ne-iff (x .pair .possible) 0
-
--- y lies above x, and differs in its pair where it touches x
-abbrev Next : Stretch → Stretch → Type 0
-Next x y = (x .last < y .first) × (suc (x .last) ≡ y .first → x .pair ≢ y .pair)
 
 pub follows-iff : (x y : Stretch) → Is (followsb x y) ↔ Next x y
 unfolding followsb

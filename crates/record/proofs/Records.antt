@@ -4,7 +4,7 @@
 -- nothing.
 use Prim.Native.Nat.{ℕ, zero, suc, _+_, _-_, _≤_, _<_}
 use mathlib.Core.Path.{_≡_, refl, sym, ap, ap₂, _∙_, subst}
-use mathlib.Core.Logic.{_↔_, _≢_}
+use mathlib.Core.Logic.{_↔_}
 use mathlib.Core.List.{List, [], _∷_, _++_, reverse, reverse-append, reverse-reverse, List·Memᴰ}
 use mathlib.Core.Bool.{Bool, true, false, cond}
 use native.Mathlib.Nat.{le-refl}
@@ -23,7 +23,7 @@ use Rattle.record.specs.declared.Record.{Record}
 use Rattle.record.specs.Pairs.{Pairs, noPair}
 use Rattle.record.specs.Stretches.{LongestRun, newest, stretchesOf, firstAges}
 use Rattle.record.specs.Records.{blank, place, inside, pairIn, pairsAt, recordOf, PairOk, StretchOk, Proper}
-use Rattle.record.proofs.Stretches.{pair-ext, said, Apart, Good, ProperList, canon, newest-cong, newest-proper, said-newest}
+use Rattle.record.proofs.Stretches.{pair-ext, said, Next, Apart, Good, ProperList, canon, newest-cong, newest-proper, said-newest, Any, newest-any}
 use Rattle.record.proofs.Longest.{stretches-longest, stretches-count}
 
 reverse-take : (l : List Stretch) (i : ℕ) → i < length l → reverse (take (suc i) l) ≡ getD l i blank ∷ reverse (take i l)
@@ -81,9 +81,6 @@ proper-pairs H n r p k = go (leb k H)
     go true = among (r .count) (le-refl (r .count))
     go false = p .above
 
-ok-good : (H n : ℕ) (x : Stretch) → StretchOk H n x → Good (PairOk n) (suc H) x
-ok-good H n x h = record { pair = h .pair; below = omega (arith, h .within); order = h .order; some = h .some }
-
 good-ok : (H n : ℕ) (x : Stretch) → Good (PairOk n) (suc H) x → StretchOk H n x
 good-ok H n x g = record { pair = g .pair; within = omega (arith, g .below); order = g .order; some = g .some }
 
@@ -125,6 +122,7 @@ module _ (H n : ℕ) (r : Record) (whole : length (r .places) ≡ 64) (ok : Prop
   pub stretches-used : stretchesOf H (pairsAt H r) ≡ take (r .count) (r .places)
   stretches-used = ap reverse newest-used ∙ reverse-reverse (take (r .count) (r .places))
 
+  -- and its count is their number
   pub count-used : length (stretchesOf H (pairsAt H r)) ≡ r .count
   count-used = ap length stretches-used ∙ length-take-le (r .count) (r .places) inside-places
 
@@ -198,22 +196,19 @@ module _ (P : Pair → Type 0) (l : List Stretch) where
           record { pair = g .pair; below = omega (arith, g .below, g′ .below, g′ .order); order = g .order; some = g .some }
 
   index-next : (c b : ℕ) → c ≤ length l → ProperList P b (reverse (take c l)) → (i : ℕ) → suc i < c
-      → (at i .last < at (suc i) .first) × (suc (at i .last) ≡ at (suc i) .first → at i .pair ≢ at (suc i) .pair)
+      → Next (at i) (at (suc i))
   index-next zero b h p i k = absurd (let z : ⊥ = omega arith in z)
   index-next (suc c) b h p i k = go (ℕ-discrete (suc i) c) (λ d. index-next c (at c .first) (omega arith) (split c h p .2) i d)
     where
-      Next : ℕ → Type 0
-      Next j = (at i .last < at j .first) × (suc (at i .last) ≡ at j .first → at i .pair ≢ at j .pair)
-
-      go : Dec (suc i ≡ c) → (suc i < c → Next (suc i)) → Next (suc i)
+      go : Dec (suc i ≡ c) → (suc i < c → Next (at i) (at (suc i))) → Next (at i) (at (suc i))
       go (no d) ih = ih (omega arith)
-      go (yes e) ih = let s = split c h p in subst Next (sym e) (last (s .1, s .2))
+      go (yes e) ih = let s = split c h p in subst (λ (j : ℕ). Next (at i) (at j)) (sym e) (last (s .1, s .2))
         where
           -- what the list says of the stretches before c
           Before : List Stretch → Type 0
           Before L = Apart (at c) L × ProperList P (at c .first) L
 
-          last : Before (reverse (take c l)) → Next c
+          last : Before (reverse (take c l)) → Next (at i) (at c)
           last s =
               let m : suc i ≤ length l = omega arith in
               let t : Before (reverse (take (suc i) l)) = subst (λ (j : ℕ). Before (reverse (take j l))) (sym e) s in
@@ -228,11 +223,8 @@ stretches-rising H f i l = index-next Any L (length L) (suc H) (le-refl (length 
     L : List Stretch
     L = stretchesOf H f
 
-    Any : Pair → Type 0
-    Any p = Unit {0}
-
     list : ProperList Any (suc H) (reverse (take (length L) L))
-    list = rw (take-length L, reverse-reverse (newest (suc H) f)) (newest-proper Any (suc H) f (λ k b. tt))
+    list = rw (take-length L, reverse-reverse (newest (suc H) f)) (newest-any (suc H) f)
 
 -- ---- the record that holds f, where every pair of f is a proper one and the stretches fit into the room
 

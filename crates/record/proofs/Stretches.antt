@@ -137,6 +137,10 @@ said-out x xs k n = ap (λ (t : Bool). cond t (x .pair) (said xs k)) (is-false (
 
 -- ---- proper lists, the newest first
 
+-- y lies above x, and differs in its pair where it touches x
+abbrev pub Next : Stretch → Stretch → Type 0
+Next x y = (x .last < y .first) × (suc (x .last) ≡ y .first → x .pair ≢ y .pair)
+
 -- x does not go on where the stretch before it ended
 abbrev pub Apart : Stretch → List Stretch → Type 0
 Apart x [] = Unit {0}
@@ -282,3 +286,11 @@ module _ (P : Pair → Type 0) where
         go (no c) (no d) ih = rw (push-some L n n (f n) c) (
             put-below L n n (f n) (le-refl n) proper k (omega arith)
             ∙ ih (omega arith))
+
+-- ---- where nothing is known of a pair
+
+abbrev pub Any : Pair → Type 0
+Any p = Unit {0}
+
+pub newest-any : (n : ℕ) (f : Pairs) → ProperList Any n (newest n f)
+newest-any n f = newest-proper Any n f (λ k l. tt)

@@ -2,7 +2,7 @@
 -- Hence demand 2, for what has become of a start's pairs (`start-yes`, `start-no`), and demand 3, for what has become of a
 -- gap's, said of every set that may have stood at its end (`gap-yes`, `gap-no`, `gap-unsure`, `gap-differ`,
 -- `gap-settled`). Assumes nothing.
-use Prim.Native.Nat.{ℕ, suc}
+use Prim.Native.Nat.{ℕ}
 use mathlib.Core.Path.{_≡_, refl, ap}
 use mathlib.Core.Logic.{_↔_, _≢_, Iff·trans, Iff·symm, Iff·not, Iff·and}
 use mathlib.Core.Bool.{Bool, true, false}
@@ -12,7 +12,7 @@ use Rattle.base.proofs.Tests.{eqb-iff, all-iff}
 use Rattle.meaning.specs.Tables.{Table, horizon}
 use Rattle.meaning.specs.Runs.{Word, Accepted}
 use Rattle.meaning.specs.Sets.{Confs, after, Accepts, Initial, Nothing, Everything, Over, Same}
-use Rattle.meaning.specs.Ages.{acceptsAt}
+use Rattle.meaning.specs.Ages.{ages, acceptsAt}
 use Rattle.meaning.proofs.Runs.{accepted-iff}
 use Rattle.meaning.proofs.Sets.{accepts-mono, after-between, yes-iff, no-iff, settled-iff}
 use Rattle.meaning.proofs.Ages.{accepts-means, settled-means}
@@ -78,7 +78,7 @@ module _ (T : Table) (f : Pairs) (A B : Confs) (s : MeanBoth T f A B) where
 
   pub settled-same : Is (settledAt T f) ↔ Same (horizon T) A B
   unfolding settledAt
-  settled-same = Iff·trans (all-iff (suc (suc (horizon T))) (λ k. eqb (f k .sure) (f k .possible)))
+  settled-same = Iff·trans (all-iff (ages (horizon T)) (λ k. eqb (f k .sure) (f k .possible)))
       (Iff·trans ((λ h k l. one k .0 (h k (omega arith))), λ h k l. one k .1 (h k (omega arith)))
       (settled-means (horizon T) (sures f) (possibles f) A B (s .sure) (s .possible)))
     where

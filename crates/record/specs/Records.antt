@@ -77,7 +77,8 @@ pub record Proper (H n : ℕ) (r : Record) : Type 0 where
   pub fits : r .count ≤ r .room
   pub each : (i : ℕ) → i < r .count → StretchOk H n (place r i)
   pub rising : (i : ℕ) → suc i < r .count → place r i .last < place r (suc i) .first
-  pub differ : (i : ℕ) → suc i < r .count → suc (place r i .last) ≡ place r (suc i) .first → place r i .pair ≢ place r (suc i) .pair
+  pub differ : (i : ℕ) → suc i < r .count → suc (place r i .last) ≡ place r (suc i) .first
+      → place r i .pair ≢ place r (suc i) .pair
   pub above : PairOk n (r .above)
   pub unused : (i : ℕ) → r .count ≤ i → i < 64 → place r i ≡ blank
 

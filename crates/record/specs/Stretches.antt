@@ -36,8 +36,8 @@ unfoldable pub firstAges : ℕ → Pairs → ℕ
 firstAges zero f = 0
 firstAges (suc n) f = firstAges n f + cond (firstAgeAt f n) 1 0
 
--- ---- the list, age by age. What it has to be believed for is `LongestRun`: `stretches-longest` and `stretches-rising` prove that
--- it has exactly those, in rising order
+-- ---- the list, age by age. To be believed is `LongestRun`: `stretches-longest` and `stretches-rising` prove that the list has
+-- exactly those, in rising order
 
 -- the ages a to b with the pair p
 abbrev pub stretch : ℕ → ℕ → Pair → Stretch
