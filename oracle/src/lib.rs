@@ -6,10 +6,16 @@
 //! [`watch`], which reads a whole session and prints its lines, and the tests hold the one to the other.
 //!
 //! [`generate`] makes sessions from a seed, and [`compare`] runs a given program over them.
+//!
+//! [`mod@record`] says what a proper record is. [`judge`] makes tables and records, and holds what a given program says
+//! of them to [`table`] and to it.
 
 pub mod ages;
 pub mod compare;
 pub mod generate;
+pub mod judge;
+pub mod record;
+pub mod run;
 pub mod session;
 pub mod spells;
 pub mod table;

@@ -1,8 +1,11 @@
-//! `oracle`: the second watch and the comparison with it.
+//! `oracle`: the second watch, the comparison with it, and the judgement of tables and records.
 
 use oracle::ages::Ages;
 use oracle::compare::{compare, Plan};
 use oracle::generate::kinds::{named, Kind, KINDS};
+use oracle::judge::probe::{answer, serve};
+use oracle::judge::{judge, Part, Reached};
+use oracle::run::{run, Failure};
 use oracle::session::LONGEST;
 use oracle::spells::Spells;
 use oracle::watch::{answers, lines};
@@ -20,7 +23,12 @@ oracle compare [--seed S] [--each N] [--of KIND=N].. [--patience SECONDS] -- PRO
 oracle session KIND SEED NUMBER
     writes one generated session to standard output
 oracle kinds
-    lists the kinds and what the sessions of each must reach";
+    lists the kinds and what the sessions of each must reach
+oracle judge [--seed S] [--tables N] [--records N] [--patience SECONDS] -- PROGRAM [WORD]..
+    gives PROGRAM generated tables, and records with a table, and compares the
+    numbers and horizons that it answers with those of `oracle probe`
+oracle probe
+    answers such cases from standard input";
 
 fn main() {
     let words: Vec<String> = std::env::args().skip(1).collect();
@@ -37,8 +45,10 @@ fn main() {
             );
         }
         Some((&"kinds", [])) => list_kinds(),
+        Some((&"judge", rest)) => judge_all(rest),
+        Some((&"probe", [])) => probe(),
         Some((&"help" | &"--help", _)) => write_out(format!("{USAGE}\n").as_bytes()),
-        _ => wrong_use("expected watch, compare, session or kinds with its words"),
+        _ => wrong_use("expected watch, compare, session, kinds, judge or probe with its words"),
     }
 }
 
@@ -99,45 +109,62 @@ struct Task {
     program: Vec<String>,
 }
 
-fn task(words: &[&str]) -> Task {
-    let mut task = Task {
-        seed: 1,
-        sessions: vec![120; KINDS.len()],
-        patience: Duration::from_secs(120),
-        program: Vec::new(),
-    };
-    let mut of = Vec::new();
+/// The options, each with its value, and the program with its words behind them.
+fn parted<'a>(words: &[&'a str]) -> (Vec<(&'a str, &'a str)>, Vec<String>) {
+    let mut options = Vec::new();
     let mut rest = words;
     loop {
         match rest {
-            ["--seed", seed, more @ ..] => {
-                task.seed = number_of(seed);
-                rest = more;
-            }
-            ["--each", each, more @ ..] => {
-                task.sessions.fill(number_of(each) as usize);
-                rest = more;
-            }
-            ["--patience", seconds, more @ ..] => {
-                task.patience = match number_of(seconds) {
-                    seconds @ 1..=86_400 => Duration::from_secs(seconds),
-                    _ => wrong_use("patience is 1 to 86,400 seconds"),
-                };
-                rest = more;
-            }
-            ["--of", one, more @ ..] => {
-                let (kind, number) = one
-                    .split_once('=')
-                    .unwrap_or_else(|| wrong_use(&format!("'{one}' is not KIND=N")));
-                of.push((kind_of(kind).name, number_of(number) as usize));
-                rest = more;
-            }
             ["--", program @ ..] if !program.is_empty() => {
-                task.program = program.iter().map(|word| word.to_string()).collect();
-                break;
+                return (
+                    options,
+                    program.iter().map(|word| word.to_string()).collect(),
+                );
             }
             [] | ["--"] => wrong_use("no program to compare with, after --"),
-            [word, ..] => wrong_use(&format!("'{word}' is not expected here")),
+            [option, value, more @ ..] => {
+                options.push((*option, *value));
+                rest = more;
+            }
+            [word] => not_expected(word),
+        }
+    }
+}
+
+fn not_expected(word: &str) -> ! {
+    wrong_use(&format!("'{word}' is not expected here"))
+}
+
+const PATIENCE: Duration = Duration::from_secs(120);
+
+fn patience_of(word: &str) -> Duration {
+    match number_of(word) {
+        seconds @ 1..=86_400 => Duration::from_secs(seconds),
+        _ => wrong_use("patience is 1 to 86,400 seconds"),
+    }
+}
+
+fn task(words: &[&str]) -> Task {
+    let (options, program) = parted(words);
+    let mut task = Task {
+        seed: 1,
+        sessions: vec![120; KINDS.len()],
+        patience: PATIENCE,
+        program,
+    };
+    let mut of = Vec::new();
+    for (option, value) in options {
+        match option {
+            "--seed" => task.seed = number_of(value),
+            "--each" => task.sessions.fill(number_of(value) as usize),
+            "--patience" => task.patience = patience_of(value),
+            "--of" => {
+                let (kind, number) = value
+                    .split_once('=')
+                    .unwrap_or_else(|| wrong_use(&format!("'{value}' is not KIND=N")));
+                of.push((kind_of(kind).name, number_of(number) as usize));
+            }
+            _ => not_expected(option),
         }
     }
     for (name, number) in of {
@@ -180,5 +207,77 @@ fn compare_all(words: &[&str]) {
     println!("{all} sessions alike, {failed} kinds failed");
     if failed > 0 {
         exit(1);
+    }
+}
+
+fn probe() {
+    if let Err(error) = serve(std::io::stdin(), std::io::stdout(), answer) {
+        eprintln!("oracle: cannot answer: {error}");
+        exit(1);
+    }
+}
+
+fn judge_all(words: &[&str]) {
+    let (options, program) = parted(words);
+    let (mut seed, mut patience) = (1, PATIENCE);
+    let (mut tables, mut records) = (120_000, 120_000);
+    for (option, value) in options {
+        match option {
+            "--seed" => seed = number_of(value),
+            "--tables" => tables = number_of(value) as usize,
+            "--records" => records = number_of(value) as usize,
+            "--patience" => patience = patience_of(value),
+            _ => not_expected(option),
+        }
+    }
+    let began = Instant::now();
+    let asked = |batch: usize, input: &[u8]| -> Result<Vec<u8>, Failure> {
+        // every third batch comes in small pieces
+        let piece = if batch % 3 == 2 { 61 } else { 1 << 16 };
+        run(&program, input, piece, patience)
+    };
+    let (mut alike, mut failed) = ([0, 0], 0);
+    let parts = [(Part::tables(seed), tables), (Part::records(seed), records)];
+    for (at, (part, cases)) in parts.iter().enumerate() {
+        match judge(part, *cases, &asked) {
+            Ok(reached) => {
+                alike[at] = *cases;
+                print_reached(part, &reached);
+            }
+            Err(failure) => {
+                failed += 1;
+                println!("{} FAILED\n{}", part.name, failure.why);
+                if failure.hangs {
+                    break;
+                }
+            }
+        }
+    }
+    println!("{:.1} seconds", began.elapsed().as_secs_f64());
+    println!(
+        "{} tables and {} records alike, {failed} failed",
+        alike[0], alike[1]
+    );
+    if failed > 0 {
+        exit(1);
+    }
+}
+
+/// How many cases of each making were answered with each number, and how many edges, orders or clauses they show.
+fn print_reached(part: &Part, reached: &Reached) {
+    let numbers: String = (0..=8).map(|number| format!("{number:7}")).collect();
+    println!("{:15}{numbers}", part.name);
+    for (making, _) in part.wanted {
+        let times: String = (0..=8)
+            .map(|number| match reached.times(making, number) {
+                0 => format!("{:>7}", "-"),
+                times => format!("{times:7}"),
+            })
+            .collect();
+        let named = match reached.labels(making) {
+            0 => String::new(),
+            labels => format!("  ({labels} named)"),
+        };
+        println!("  {making:13}{times}{named}");
     }
 }

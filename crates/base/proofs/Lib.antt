@@ -1,3 +1,4 @@
 pub mod Tests
 pub mod Masks
 pub mod Checks
+pub mod Rules

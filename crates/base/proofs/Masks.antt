@@ -2,18 +2,19 @@
 -- (`has-or`, `has-and`, `has-bit`, `has-full`, `has-pick`, `has-cond`, `has-union`). Then: below 2 ^ n, parts, the empty mask,
 -- the tests `hasb` and `m / 2 ^ i % 2`, and the largest of some numbers (`le-most`, `most-le`, `most-attained`). Assumes
 -- nothing.
-use Prim.Native.Nat.{ℕ, zero, suc, _-_, _/_, _%_, _^_, _≤_, _<_, suc-le-suc, min, max}
+use Prim.Native.Nat.{ℕ, zero, suc, _+_, _-_, _/_, _%_, _^_, _≤_, _<_, suc-le-suc, min, max}
 use mathlib.Core.Path.{_≡_, refl, sym, ap, _∙_, subst}
 use mathlib.Core.Logic.{_↔_, _⊎_, inl, inr, _≢_, ⊎-elim, Iff·rfl}
 use mathlib.Core.Bool.{Bool, true, false, cond, not}
-use native.Mathlib.Nat.{pow-suc, not-suc-le-zero, suc-inj, div-one, pow-succ', div-div-eq-div-mul}
+use native.Mathlib.Nat.{pow-suc, not-suc-le-zero, suc-inj, div-one, pow-succ', div-div-eq-div-mul, div-eq-of-lt, div-lt-iff-lt-mul, lt-of-lt-of-le}
 use native.Mathlib.Decide.{ℕ-discrete, decLe}
+use native.Mathlib.Numerals.{add-one}
 use native.Mathlib.Omega.{arith}
 use lib.Arith.{digits-mod, lt-one, bin-ind}
 use lib.Bits.{bitOr, bitAnd, or-step, and-step, or-shr, and-shr}
 use lib.Dec.{T as Is}
-use lib.Pow.{pow-pos}
-use Rattle.base.specs.Masks.{Has, hasb, Part, pick, union, most}
+use lib.Pow.{pow-pos, pow-mono}
+use Rattle.base.specs.Masks.{Has, hasb, Part, pastStates, pick, union, most}
 use Rattle.base.proofs.Tests.{eqb-iff}
 
 low-cases : (a : ℕ) → (a % 2 ≡ 0) ⊎ (a % 2 ≡ 1)
@@ -161,6 +162,17 @@ below-has (suc n) m h = rw pow-suc (
     let ih : m / 2 < 2 ^ n = below-has n (m / 2) (λ i k. omega (arith, h (suc i) k)) in
     omega arith)
 
+-- what `mask >> n != 0` tests
+pub past-below : (n m : ℕ) → (m / 2 ^ n ≡ 0) ↔ (m < 2 ^ n)
+past-below n m = (to, div-eq-of-lt)
+  where
+    to : m / 2 ^ n ≡ 0 → m < 2 ^ n
+    to e = omega (arith, div-lt-iff-lt-mul {x = m} {y = 1} (pow-pos n) .0 (omega arith))
+
+-- a mask of 16 bits passes no n from 16 on
+pub past-none : (n m : ℕ) → m < 2 ^ 16 → 16 ≤ n → pastStates n m ≡ false
+past-none n m h l = rw (div-eq-of-lt (lt-of-lt-of-le h (pow-mono l)))
+
 -- ---- a part of another: what `a | b == b` tests
 
 pub part-or : (a b : ℕ) → Part a b ↔ (bitOr a b ≡ b)
@@ -195,6 +207,11 @@ le-most (suc n) f i h = go (ℕ-discrete i n) (le-most n f i)
     go : Dec (i ≡ n) → (i < n → f i ≤ most n f) → f i ≤ max (most n f) (f n)
     go (yes e) ih = let z : f i ≡ f n = ap f e in omega arith
     go (no d) ih = let z : f i ≤ most n f = ih (omega arith) in omega arith
+
+-- one number more, as a loop takes it
+pub most-next : (n : ℕ) (f : ℕ → ℕ) (v : ℕ) → v ≡ max (most n f) (f n) → v ≡ most (n + 1) f
+unfolding most
+most-next n f v e = rw (add-one n) e
 
 -- a bound of all numbers f 0 to f (n - 1) is one of the largest of them
 pub most-le : (n : ℕ) (f : ℕ → ℕ) (c : ℕ) → ((i : ℕ) → i < n → f i ≤ c) → most n f ≤ c

@@ -1,12 +1,13 @@
 -- What a test says, as a fact: `eqb-iff`, `ne-iff`, `leb-iff`, `ltb-iff` for two numbers, `beq-iff` for two flags; `and-iff`,
 -- `or-iff` and `not-iff` for tests put together, `all-iff` for a test of all numbers below n. `is-true` and `is-false` go from
 -- the fact to the test's value. Assumes nothing.
-use Prim.Native.Nat.{ℕ, zero, suc, _≤_, _<_}
+use Prim.Native.Nat.{ℕ, zero, suc, _+_, _≤_, _<_}
 use mathlib.Core.Path.{_≡_, refl, sym, subst}
 use mathlib.Core.Logic.{_↔_, _⊎_, inl, inr, _≢_, ⊎-elim, Iff·rfl, Iff·trans, Iff·not}
 use mathlib.Core.Bool.{Bool, true, false, _&&_, _||_, not, Bool·beq, true≢false, false≢true}
 use native.Mathlib.Nat.{not-suc-le-zero}
 use native.Mathlib.Decide.{ℕ-discrete}
+use native.Mathlib.Numerals.{add-one}
 use native.Mathlib.Omega.{arith}
 use lib.Dec.{T as Is, eqb, leb, ltb, eqb→eq, eqb-refl, leb→le, le→leb, ltb→lt, lt→ltb, T-not, not-T}
 use Rattle.base.specs.Masks.{all}
@@ -73,3 +74,11 @@ all-iff (suc n) f = (to (all-iff n f), from (all-iff n f))
 
     from : Is (all n f) ↔ Below n → Below (suc n) → Is (all n f && f n)
     from ih h = and-iff (all n f) (f n) ih Iff·rfl .1 ((λ i l. h i (omega arith)), h n (omega arith))
+
+-- as a loop takes them: up to n all say so, and f n too; or f n does not, and so not all below e
+pub all-next : (n : ℕ) (f : ℕ → Bool) → true ≡ all n f → f n ≡ true → true ≡ all (n + 1) f
+unfolding all
+all-next n f before here = rw (add-one n, ← before) (sym here)
+
+pub all-not : (n e : ℕ) (f : ℕ → Bool) → n < e → f n ≡ false → false ≡ all e f
+all-not n e f l here = sym (is-false (all e f) (λ h. subst Is here (all-iff e f .0 h n l)))

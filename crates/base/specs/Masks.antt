@@ -1,8 +1,8 @@
 -- A set of states as a mask: bit i for state i (document 01, The table). Also what is taken over numbers 0 to n - 1 in turn:
 -- a union, a maximum, a test of all. Each goes by the number done, as a loop does. Assumes nothing: these are definitions.
-use Prim.Native.Nat.{ℕ, zero, suc, _/_, _%_, max}
+use Prim.Native.Nat.{ℕ, zero, suc, _/_, _%_, _^_, max}
 use mathlib.Core.Path.{_≡_}
-use mathlib.Core.Bool.{Bool, true, false, _&&_}
+use mathlib.Core.Bool.{Bool, true, false, _&&_, not}
 use lib.Bits.{bitOr}
 use lib.Dec.{eqb}
 
@@ -19,6 +19,10 @@ hasb m (suc i) = hasb (m / 2) i
 -- every state of a is one of b
 abbrev pub Part : ℕ → ℕ → Type 0
 Part a b = (i : ℕ) → Has a i → Has b i
+
+-- the mask has "a bit for state n or above" (document 01, number 5): something is left of it once n bits are shifted out
+abbrev pub pastStates : ℕ → ℕ → Bool
+pastStates n mask = not (eqb (mask / 2 ^ n) 0)
 
 -- m where the test says so, and nothing where it does not
 abbrev pub pick : Bool → ℕ → ℕ

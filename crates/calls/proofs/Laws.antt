@@ -22,7 +22,7 @@ use Rattle.record.specs.declared.Record.{Record}
 use Rattle.record.specs.Pairs.{Pairs, startPairs, gapPairs}
 use Rattle.record.specs.Records.{blankRecord, recordOf, Proper, properb}
 use Rattle.record.proofs.Records.{count-used, recordOf-whole, recordOf-pairs, recordOf-proper, proper-pairs}
-use Rattle.record.proofs.Proper.{proper-iff}
+use Rattle.record.proofs.Properness.{proper-iff}
 use Rattle.record.proofs.Pairs.{Ok, step-ok, start-ok, gap-ok}
 use Rattle.record.proofs.Counts.{start-count, gap-count, span-count}
 use Rattle.calls.specs.Calls.{pairsOf, holding, needed, stepped, startFault, recordFault, letterFault, spanFault, answer, startOf, letterOf, spanOf, gapOf, told, replyNumber, reply, countOf}

@@ -1,49 +1,41 @@
 -- A table that earns no number is sound, and a sound table earns none (`sound-iff`). Then what a sound table gives a caller:
 -- its horizon is no more than the longest age, every line is there, and nothing leads out of its states. Callers cite these
 -- and open none of the checks. Assumes nothing.
-use Prim.Native.Nat.{ℕ, _+_, _*_, _/_, _^_, _≤_, _<_}
+use Prim.Native.Nat.{ℕ, _+_, _*_, _≤_, _<_}
 use mathlib.Core.Path.{_≡_}
 use mathlib.Core.Logic.{_↔_, _⊎_, inl, inr, Iff·trans}
 use mathlib.Core.List.{List}
 use mathlib.Core.Bool.{_&&_, not}
-use native.Mathlib.Nat.{div-eq-of-lt, div-lt-iff-lt-mul}
 use native.Mathlib.Decide.{ℕ-discrete}
 use native.Mathlib.Omega.{arith}
 use lib.Dec.{T as Is, eqb, ltb}
 use lib.ListN.{length}
-use lib.Pow.{pow-pos}
 use borrow.Author.Tests.{eq-eqb, ne-eqb}
 use Rattle.base.proofs.Tests.{ltb-iff, ne-iff, and-iff}
-use Rattle.base.proofs.Checks.{Fails, Passes, _or_, _and-then_, check, each, below, at-most, not-zero, equal}
+use Rattle.base.proofs.Checks.{Fails, Passes, _or_, _and-then_, check, each, below, at-most, not-zero, equal, within}
 use Rattle.base.proofs.Masks.{most-le}
 use Rattle.table.specs.declared.Head.{Head}
 use Rattle.table.specs.declared.Line.{Line}
 use Rattle.table.specs.Table.{headOf, lineAt}
 use Rattle.meaning.specs.Tables.{noBound, lineTop, tableOf, horizon}
 use Rattle.meaning.proofs.Sets.{Closed}
-use Rattle.faults.specs.Faults.{longestAge, badCounts, badLength, pastStates, badMasks, badParts, badAges, lineFault, tableFault}
+use Rattle.faults.specs.Faults.{longestAge, badCounts, badLength, badMasks, badParts, badGreatest, badAges, lineFault, tableFault}
 use Rattle.faults.specs.Sound.{SoundLine, Sound}
 
--- ---- what a mask and a greatest age say where their tests fail
+-- ---- what a greatest age says where its test fails
 
-within : (n mask : ℕ) → Fails (pastStates n mask) (mask < 2 ^ n)
-within n mask = record { iff = Iff·trans (equal (mask / 2 ^ n) 0 .iff) (to, div-eq-of-lt) }
-  where
-    to : mask / 2 ^ n ≡ 0 → mask < 2 ^ n
-    to e = omega (arith, div-lt-iff-lt-mul {x = mask} {y = 1} (pow-pos n) .0 (omega arith))
-
-bounded : (u : ℕ) → Fails (ltb longestAge u && not (eqb u noBound)) ((u ≡ noBound) ⊎ (u ≤ longestAge))
+bounded : (u : ℕ) → Fails (badGreatest u) ((u ≡ noBound) ⊎ (u ≤ longestAge))
 bounded u = record { iff = (to (ℕ-discrete u noBound), from) }
   where
-    past : Is (ltb longestAge u && not (eqb u noBound)) ↔ ((longestAge < u) × ¬ (u ≡ noBound))
+    past : Is (badGreatest u) ↔ ((longestAge < u) × ¬ (u ≡ noBound))
     past = and-iff (ltb longestAge u) (not (eqb u noBound)) (ltb-iff longestAge u)
         (ne-iff u noBound)
 
-    to : Dec (u ≡ noBound) → ¬ Is (ltb longestAge u && not (eqb u noBound)) → (u ≡ noBound) ⊎ (u ≤ longestAge)
+    to : Dec (u ≡ noBound) → ¬ Is (badGreatest u) → (u ≡ noBound) ⊎ (u ≤ longestAge)
     to (yes e) h = inl e
     to (no d) h = inr (let n : ¬ (longestAge < u) = λ l. h (past .1 (l, d)) in omega arith)
 
-    from : (u ≡ noBound) ⊎ (u ≤ longestAge) → ¬ Is (ltb longestAge u && not (eqb u noBound))
+    from : (u ≡ noBound) ⊎ (u ≤ longestAge) → ¬ Is (badGreatest u)
     from (inl e) t = past .0 t .1 e
     from (inr l) t = omega (arith, past .0 t .0)
 

@@ -1,11 +1,12 @@
 -- Whether a slice of bytes is a table: which of the numbers 1 to 7 it earns, 0 where it is one (document 01, Numbers a call
 -- can answer with). "Checks run in this order, each only after the ones before it passed. Lines are checked in table order,
 -- 6 before 7 within a line, and the first bad line decides." Assumes nothing: these are definitions.
-use Prim.Native.Nat.{ℕ, _+_, _*_, _/_, _^_}
+use Prim.Native.Nat.{ℕ, _+_, _*_}
 use mathlib.Core.List.{List}
 use mathlib.Core.Bool.{Bool, _&&_, _||_, not}
 use lib.Dec.{eqb, leb, ltb}
 use lib.ListN.{length}
+use Rattle.base.specs.Masks.{pastStates}
 use Rattle.base.specs.Checks.{_if_, _then_, firstOf}
 use Rattle.table.specs.declared.Head.{Head}
 use Rattle.table.specs.declared.Line.{Line}
@@ -27,10 +28,6 @@ badCounts h =
 unfoldable pub badLength : Head → ℕ → Bool
 badLength h whole = not (eqb (h .length) (12 + 12 * h .lines)) || not (eqb (h .length) whole)
 
--- the mask has "a bit for state n or above"
-abbrev pub pastStates : ℕ → ℕ → Bool
-pastStates n mask = not (eqb (mask / 2 ^ n) 0)
-
 -- 5: "a mask has a bit for state n or above"
 unfoldable pub badMasks : Head → Bool
 badMasks h =
@@ -45,11 +42,15 @@ badParts h l =
     || leb (h .letters) (l .letter)
     || ltb 1 (l .flags)
 
+-- "U above that and not the none value"
+abbrev pub badGreatest : ℕ → Bool
+badGreatest u = ltb longestAge u && not (eqb u noBound)
+
 -- 7: "L above 31,622,400; U above that and not the none value; U below L"
 unfoldable pub badAges : Line → Bool
 badAges l =
     ltb longestAge (l .least)
-    || (ltb longestAge (l .greatest) && not (eqb (l .greatest) noBound))
+    || badGreatest (l .greatest)
     || ltb (l .greatest) (l .least)
 
 -- a line's number: "6 before 7 within a line"

@@ -1,8 +1,9 @@
 pub mod Stretches
 pub mod Longest
 pub mod Records
-pub mod Proper
+pub mod Properness
 pub mod Pairs
 pub mod Verdicts
 pub mod Counts
 pub mod Cases
+pub mod Building

@@ -2,7 +2,7 @@
 -- room with the same pairs are the same, place for place (`unique`); what a proper record holds and counts are the longest runs
 -- (`held-longest`, `count-longest`). The record that holds f is proper and says f (`recordOf-proper`, `recordOf-pairs`). Assumes
 -- nothing.
-use Prim.Native.Nat.{ℕ, zero, suc, _+_, _-_, _≤_, _<_}
+use Prim.Native.Nat.{ℕ, zero, suc, _+_, _-_, _≤_, _<_, min}
 use mathlib.Core.Path.{_≡_, refl, sym, ap, ap₂, _∙_, subst}
 use mathlib.Core.Logic.{_↔_}
 use mathlib.Core.List.{List, [], _∷_, _++_, reverse, reverse-append, reverse-reverse, List·Memᴰ}
@@ -40,15 +40,20 @@ pairIn-said l (suc n) k h = rw (reverse-take l n h)
     (ap (cond (inside (getD l n blank) k) (getD l n blank .pair)) (pairIn-said l n k (omega arith)))
 
 module _ (H : ℕ) (r : Record) where
-  pub pairsAt-low : r .count ≤ length (r .places) → (k : ℕ) → k ≤ H → pairsAt H r k ≡ said (used r) k
+  pub pairsAt-low : r .count ≤ 64 → r .count ≤ length (r .places) → (k : ℕ) → k ≤ H → pairsAt H r k ≡ said (used r) k
   unfolding pairsAt
-  pairsAt-low c k l =
-      ap (λ (t : Bool). cond t (pairIn (r .places) (r .count) k) (r .above)) (is-true (leb k H) (leb-iff k H .1 l))
+  pairsAt-low few c k l =
+      ap (λ (t : Bool). cond t (pairIn (r .places) (min (r .count) 64) k) (r .above)) (is-true (leb k H) (leb-iff k H .1 l))
+      ∙ ap (λ (n : ℕ). pairIn (r .places) n k) counted
       ∙ pairIn-said (r .places) (r .count) k c
+    where
+      counted : min (r .count) 64 ≡ r .count
+      counted = omega arith
 
   pub pairsAt-above : pairsAt H r (suc H) ≡ r .above
   unfolding pairsAt
-  pairsAt-above = ap (λ (t : Bool). cond t (pairIn (r .places) (r .count) (suc H)) (r .above)) (is-false (leb (suc H) H) not-low)
+  pairsAt-above = ap (λ (t : Bool). cond t (pairIn (r .places) (min (r .count) 64) (suc H)) (r .above))
+      (is-false (leb (suc H) H) not-low)
     where
       not-low : ¬ Is (leb (suc H) H)
       not-low t = let z : suc H ≤ H = leb-iff (suc H) H .0 t in omega arith
@@ -77,8 +82,8 @@ proper-pairs H n r p k = go (leb k H)
     among (suc i) l = pick (inside (place r i) k) (place r i .pair) (pairIn (r .places) i k)
         (p .each i l .pair) (among i (omega arith))
 
-    go : (t : Bool) → PairOk n (cond t (pairIn (r .places) (r .count) k) (r .above))
-    go true = among (r .count) (le-refl (r .count))
+    go : (t : Bool) → PairOk n (cond t (pairIn (r .places) (min (r .count) 64) k) (r .above))
+    go true = among (min (r .count) 64) (omega arith)
     go false = p .above
 
 good-ok : (H n : ℕ) (x : Stretch) → Good (PairOk n) (suc H) x → StretchOk H n x
@@ -87,8 +92,11 @@ good-ok H n x g = record { pair = g .pair; within = omega (arith, g .below); ord
 -- ---- a proper record is the one that holds its own pairs. Every record has 64 places; that is `whole`.
 
 module _ (H n : ℕ) (r : Record) (whole : length (r .places) ≡ 64) (ok : Proper H n r) where
+  few : r .count ≤ 64
+  few = omega (arith, ok .fits, ok .room-high)
+
   inside-places : r .count ≤ length (r .places)
-  inside-places = omega (arith, ok .fits, ok .room-high)
+  inside-places = omega (arith, few)
 
   used-proper : (i : ℕ) → i ≤ r .count → (b : ℕ) → ((j : ℕ) → suc j ≡ i → place r j .last < b)
       → ProperList (PairOk n) b (reverse (take i (r .places)))
@@ -112,7 +120,7 @@ module _ (H n : ℕ) (r : Record) (whole : length (r .places) ≡ 64) (ok : Prop
 
   newest-used : newest (suc H) (pairsAt H r) ≡ used r
   newest-used =
-      newest-cong (suc H) (pairsAt H r) (said (used r)) (λ k l. pairsAt-low H r inside-places k (omega arith))
+      newest-cong (suc H) (pairsAt H r) (said (used r)) (λ k l. pairsAt-low H r few inside-places k (omega arith))
       ∙ canon (PairOk n) (used r) (suc H) (used-proper (r .count) (le-refl (r .count)) (suc H) low)
     where
       low : (j : ℕ) → suc j ≡ r .count → place r j .last < suc H
@@ -244,6 +252,10 @@ module _ (room H n : ℕ) (f : Pairs) (ok : (k : ℕ) → k ≤ suc H → PairOk
   unfolding recordOf
   used-of = ap reverse (take-at L (replicate (64 - length L) blank) (length L) refl) ∙ reverse-reverse (newest (suc H) f)
 
+  few-of : r .count ≤ 64
+  unfolding recordOf
+  few-of = omega arith
+
   inside-of : r .count ≤ length (r .places)
   unfolding recordOf
   inside-of = omega (arith, recordOf-whole)
@@ -254,7 +266,7 @@ module _ (room H n : ℕ) (f : Pairs) (ok : (k : ℕ) → k ≤ suc H → PairOk
     where
       go : Dec (k ≤ H) → pairsAt H r k ≡ f k
       go (yes b) =
-          pairsAt-low H r inside-of k b
+          pairsAt-low H r few-of inside-of k b
           ∙ ap (λ (L : List Stretch). said L k) used-of
           ∙ said-newest (PairOk n) (pairOk-empty n) (suc H) f (λ j b. ok j (omega arith)) k (omega arith)
       go (no b) = let e : k ≡ suc H = omega arith in

@@ -2,3 +2,4 @@ pub mod Pairs
 pub mod Verdicts
 pub mod Stretches
 pub mod Records
+pub mod Building

@@ -1,6 +1,6 @@
 -- The record: what it says of each age, when it is proper, and which record holds given pairs (document 01, The record).
 -- Assumes nothing: these are definitions.
-use Prim.Native.Nat.{ℕ, zero, suc, _-_, _^_, _≤_, _<_}
+use Prim.Native.Nat.{ℕ, zero, suc, _-_, _^_, _≤_, _<_, min}
 use mathlib.Core.Path.{_≡_}
 use mathlib.Core.Logic.{_≢_}
 use mathlib.Core.List.{List, _++_}
@@ -8,7 +8,7 @@ use mathlib.Core.Bool.{Bool, _&&_, _||_, cond, not}
 use lib.Bits.{bitOr}
 use lib.Dec.{eqb, leb, ltb}
 use lib.ListN.{length, getD, replicate}
-use Rattle.base.specs.Masks.{Part, all}
+use Rattle.base.specs.Masks.{Part, pastStates, all}
 use Rattle.record.specs.declared.Pair.{Pair}
 use Rattle.record.specs.declared.Stretch.{Stretch}
 use Rattle.record.specs.declared.Record.{Record}
@@ -39,9 +39,10 @@ unfoldable pub pairIn : List Stretch → ℕ → ℕ → Pair
 pairIn l zero k = noPair
 pairIn l (suc n) k = cond (inside (getD l n blank) k) (getD l n blank .pair) (pairIn l n k)
 
--- "For each age 0 to H there is a pair, sure and possible", and "one pair for all ages above H"
+-- "For each age 0 to H there is a pair, sure and possible", and "one pair for all ages above H". Of the 64 places the first
+-- `count` say so; a count above 64, which no proper record has, means all of them
 unfoldable pub pairsAt : ℕ → Record → Pairs
-pairsAt H r k = cond (leb k H) (pairIn (r .places) (r .count) k) (r .above)
+pairsAt H r k = cond (leb k H) (pairIn (r .places) (min (r .count) 64) k) (r .above)
 
 -- ---- which record holds the pairs f: "its room .., the count of stretches, each stretch's first and last age and its pair, and
 -- one pair for all ages above H. Its 64 places are held with it; those beyond the count are all zero."
@@ -86,11 +87,11 @@ pub record Proper (H n : ℕ) (r : Record) : Type 0 where
 
 -- `PairOk`: the sure set adds nothing to the possible one, which has no bit for state n or above
 unfoldable pub pairOkb : ℕ → Pair → Bool
-pairOkb n p = eqb (bitOr (p .sure) (p .possible)) (p .possible) && ltb (p .possible) (2 ^ n)
+pairOkb n p = eqb (bitOr (p .sure) (p .possible)) (p .possible) && not (pastStates n (p .possible))
 
 -- `StretchOk`
 unfoldable pub stretchOkb : ℕ → ℕ → Stretch → Bool
-stretchOkb H n x = pairOkb n (x .pair) && leb (x .last) H && leb (x .first) (x .last) && not (eqb (x .pair .possible) 0)
+stretchOkb H n x = leb (x .last) H && leb (x .first) (x .last) && not (eqb (x .pair .possible) 0) && pairOkb n (x .pair)
 
 -- `rising` and `differ`: y may follow x, as it lies above x and differs in its pair where it touches x
 unfoldable pub followsb : Stretch → Stretch → Bool

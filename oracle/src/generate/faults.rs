@@ -160,14 +160,23 @@ fn spoil_start(random: &mut Random, draft: &mut Draft, number: u8) {
     let whole = 12 + 12 * table.lines.len() as u64;
     match number {
         1 => table.length = Some(random.from(0, 11) as u16),
+        4 if random.one_in(2) => table.length = Some(random.from(12, whole - 1) as u16),
+        4 => table.length = Some(random.from(whole + 1, 65_535) as u16),
+        8 => draft.room = random.pick(&[0, 65, 255]),
+        _ => spoil_table(random, table, number),
+    }
+}
+
+/// The table with one of the faults of this number: 2, 3, 5, or in its last line 6 or 7.
+pub fn spoil_table(random: &mut Random, table: &mut TableDraft, number: u8) {
+    let last = table.lines.len().saturating_sub(1);
+    match number {
         2 => table.version = random.pick(&[0, 2, 255]),
         3 => match random.from(0, 2) {
             0 => table.states = random.pick(&[0, 17, 255]),
             1 => table.letters = random.pick(&[0, 33, 255]),
             _ => table.lines.resize(65, line(0, 0, 1, KEEPS, 0, NONE)),
         },
-        4 if random.one_in(2) => table.length = Some(random.from(12, whole - 1) as u16),
-        4 => table.length = Some(random.from(whole + 1, 65_535) as u16),
         5 => {
             // n is below 16 here, so that there is a bit too many
             let bit = 1 << random.from(u64::from(table.states.min(15)), 15);
@@ -177,19 +186,12 @@ fn spoil_start(random: &mut Random, draft: &mut Draft, number: u8) {
                 _ => table.accepting |= bit,
             }
         }
-        6 => {
-            let last = table.lines.len() - 1;
-            spoil_line_6(random, table, last);
-        }
-        7 => {
-            let last = table.lines.len() - 1;
-            spoil_line_7(random, table, last);
-        }
-        _ => draft.room = random.pick(&[0, 65, 255]),
+        6 => spoil_line_6(random, table, last),
+        _ => spoil_line_7(random, table, last),
     }
 }
 
-fn spoil_line_6(random: &mut Random, table: &mut TableDraft, at: usize) {
+pub fn spoil_line_6(random: &mut Random, table: &mut TableDraft, at: usize) {
     let line = &mut table.lines[at];
     match random.from(0, 3) {
         0 => line.from = random.pick(&[table.states, 255]),
@@ -199,7 +201,7 @@ fn spoil_line_6(random: &mut Random, table: &mut TableDraft, at: usize) {
     }
 }
 
-fn spoil_line_7(random: &mut Random, table: &mut TableDraft, at: usize) {
+pub fn spoil_line_7(random: &mut Random, table: &mut TableDraft, at: usize) {
     let line = &mut table.lines[at];
     let over = GREATEST as u32 + 1;
     match random.from(0, 2) {

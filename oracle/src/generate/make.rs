@@ -10,12 +10,12 @@ use crate::table::GREATEST;
 pub const LONGEST_SPAN: u32 = 2_147_483_647;
 
 /// How large the parts of a random table are.
-struct Size {
-    states: u8,
-    letters: u8,
-    lines: u64,
+pub struct Size {
+    pub states: u8,
+    pub letters: u8,
+    pub lines: u64,
     /// No line names a greater age.
-    top: u32,
+    pub top: u32,
 }
 
 fn below(random: &mut Random, n: u8) -> u8 {
@@ -49,7 +49,7 @@ fn random_line(random: &mut Random, size: &Size) -> LineDraft {
     )
 }
 
-fn random_table(random: &mut Random, size: &Size) -> TableDraft {
+pub fn random_table(random: &mut Random, size: &Size) -> TableDraft {
     TableDraft {
         version: 1,
         length: None,

@@ -1,5 +1,5 @@
 -- The test of a record says exactly whether it is proper (`proper-iff`), clause by clause. Assumes nothing.
-use Prim.Native.Nat.{ℕ, zero, suc, _-_, _^_, _≤_, _<_}
+use Prim.Native.Nat.{ℕ, zero, suc, _-_, _≤_, _<_}
 use mathlib.Core.Path.{_≡_, refl, ap, subst}
 use mathlib.Core.Logic.{_↔_, _⊎_, inl, inr, _≢_, Iff·trans, Iff·symm, Iff·not}
 use mathlib.Core.Bool.{Bool, true, false, _&&_, _||_, cond, not}
@@ -7,8 +7,10 @@ use native.Mathlib.Decide.{decLt}
 use native.Mathlib.Omega.{arith}
 use lib.Bits.{bitOr}
 use lib.Dec.{T as Is, eqb, leb, ltb}
-use Rattle.base.specs.Masks.{Part, all}
+use borrow.Author.Tests.{le-leb, not-true, not-false}
+use Rattle.base.specs.Masks.{Part, pastStates, all}
 use Rattle.base.proofs.Tests.{eqb-iff, leb-iff, ltb-iff, not-iff, and-iff, or-iff, all-iff, ne-iff}
+use Rattle.base.proofs.Checks.{within}
 use Rattle.base.proofs.Masks.{part-or}
 use Rattle.record.specs.declared.Pair.{Pair}
 use Rattle.record.specs.declared.Stretch.{Stretch}
@@ -21,7 +23,7 @@ use Rattle.record.proofs.Stretches.{samePair-iff, Next}
 pub pairOk-iff : (n : ℕ) (p : Pair) → Is (pairOkb n p) ↔ PairOk n p
 unfolding pairOkb
 pairOk-iff n p = Iff·trans
-    (and-iff (eqb (bitOr s m) m) (ltb m (2 ^ n)) part (ltb-iff m (2 ^ n)))
+    (and-iff (eqb (bitOr s m) m) (not (pastStates n m)) part (Iff·trans (not-iff (pastStates n m)) (within n m .iff)))
     ((λ h. record { part = h .0; small = h .1 }), λ h. (h .part, h .small))
   where
     s : ℕ
@@ -35,14 +37,11 @@ pairOk-iff n p = Iff·trans
 
 pub stretchOk-iff : (H n : ℕ) (x : Stretch) → Is (stretchOkb H n x) ↔ StretchOk H n x
 unfolding stretchOkb
-stretchOk-iff H n x = Iff·trans (and-iff (okb && withinb && orderb) someb (and-iff (okb && withinb) orderb within order) some) (
-  (λ h. record { pair = h .0 .0 .0; within = h .0 .0 .1; order = h .0 .1; some = h .1 }),
-  λ h. (((h .pair, h .within), h .order), h .some),
+stretchOk-iff H n x = Iff·trans (and-iff (withinb && orderb && someb) okb (and-iff (withinb && orderb) someb aged some) ok) (
+  (λ h. record { pair = h .1; within = h .0 .0 .0; order = h .0 .0 .1; some = h .0 .1 }),
+  λ h. (((h .within, h .order), h .some), h .pair),
 )
   where
-    okb : Bool
-    okb = pairOkb n (x .pair)
-
     withinb : Bool
     withinb = leb (x .last) H
 
@@ -52,14 +51,17 @@ stretchOk-iff H n x = Iff·trans (and-iff (okb && withinb && orderb) someb (and-
     someb : Bool
     someb = not (eqb (x .pair .possible) 0)
 
-    within : Is (okb && withinb) ↔ (PairOk n (x .pair) × (x .last ≤ H))
-    within = and-iff okb withinb (pairOk-iff n (x .pair)) (leb-iff (x .last) H)
+    okb : Bool
+    okb = pairOkb n (x .pair)
 
-    order : Is orderb ↔ (x .first ≤ x .last)
-    order = leb-iff (x .first) (x .last)
+    aged : Is (withinb && orderb) ↔ ((x .last ≤ H) × (x .first ≤ x .last))
+    aged = and-iff withinb orderb (leb-iff (x .last) H) (leb-iff (x .first) (x .last))
 
     some : Is someb ↔ (x .pair .possible ≢ 0)
     some = ne-iff (x .pair .possible) 0
+
+    ok : Is okb ↔ PairOk n (x .pair)
+    ok = pairOk-iff n (x .pair)
 
 pub follows-iff : (x y : Stretch) → Is (followsb x y) ↔ Next x y
 unfolding followsb
@@ -197,3 +199,15 @@ module _ (H n : ℕ) (r : Record) where
 
           each : Places
           each i b = placeOk-iff i .1 ((λ l. (p .each i l, before i l)), λ l. p .unused i l b)
+
+-- as code asks: f is what it found of the places, once room and count have passed
+module _ (H n : ℕ) (r : Record) (f : Bool) (low : 1 ≤ r .room) (high : r .room ≤ 64) (fits : r .count ≤ r .room)
+    (found : f ≡ all 64 (placeOkb H n r)) where
+  pub proper-not : not f ≡ true → false ≡ properb H n r
+  unfolding properb
+  proper-not e = rw (le-leb 1 (r .room) low, le-leb (r .room) 64 high, le-leb (r .count) (r .room) fits, ← found, not-true f e)
+
+  pub proper-by : (v : Bool) → not f ≡ false → v ≡ pairOkb n (r .above) → v ≡ properb H n r
+  unfolding properb
+  proper-by v e h =
+      rw (le-leb 1 (r .room) low, le-leb (r .room) 64 high, le-leb (r .count) (r .room) fits, ← found, not-false f e) h

@@ -1,0 +1,61 @@
+-- `faults::table_fault` asks what `tableFault` asks, in its order, of the head that was read. Assumes nothing.
+use borrow.Author.Needs.{needs}
+use Rattle.base.proofs.Rules.{checks}
+use Rattle.faults.specs.Faults.{tableFault}
+use Rattle.faults.proofs.table_fault.Statement.{statement}
+use Rattle.faults.proofs.table_fault.Tie as tie
+
+returns : tie.Need-returns
+unfolding tableFault
+returns c = search checks
+
+head-of-requires : tie.Need-head-of-requires
+head-of-requires c κs = search needs
+
+returns-2 : tie.Need-returns-2
+unfolding tableFault
+returns-2 c = rw (← (c .before .before .head-of .ensures)) (search checks)
+
+bad-counts-requires : tie.Need-bad-counts-requires
+bad-counts-requires c κs = search needs
+
+returns-3 : tie.Need-returns-3
+unfolding tableFault
+returns-3 c = rw (← (c .before .before .before .before .head-of .ensures)) (search checks)
+
+bad-length-requires : tie.Need-bad-length-requires
+bad-length-requires c κs = search needs
+
+returns-4 : tie.Need-returns-4
+unfolding tableFault
+returns-4 c = rw (← (c .before .before .before .before .before .before .head-of .ensures)) (search checks)
+
+bad-masks-requires : tie.Need-bad-masks-requires
+bad-masks-requires c κs = search needs
+
+returns-5 : tie.Need-returns-5
+unfolding tableFault
+returns-5 c = rw (← (c .before .before .before .before .before .before .before .before .head-of .ensures)) (search checks depth 8)
+
+lines-fault-requires : tie.Need-lines-fault-requires
+lines-fault-requires c κs = search needs
+
+returns-6 : tie.Need-returns-6
+unfolding tableFault
+returns-6 c = rw (← (c .before .before .before .before .before .before .before .before .before .head-of .ensures)) (search checks depth 8)
+
+pub table-fault-spec : {M : Type 1} → statement M
+table-fault-spec =
+    tie.close
+    (tie.spec
+    returns
+    head-of-requires
+    returns-2
+    bad-counts-requires
+    returns-3
+    bad-length-requires
+    returns-4
+    bad-masks-requires
+    returns-5
+    lines-fault-requires
+    returns-6)

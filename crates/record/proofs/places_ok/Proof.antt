@@ -1,0 +1,58 @@
+-- `record::places_ok` meets its contract: the places below i are all as they should be; the places left fall. Assumes nothing.
+use Prim.Native.Nat.{_-_, _≤_}
+use mathlib.Core.Path.{_≡_, refl}
+use mathlib.Core.Bool.{true}
+use native.Mathlib.Omega.{arith}
+use borrow.Author.Needs.{needs}
+use Rattle.base.specs.Masks.{all}
+use Rattle.base.proofs.Tests.{all-next, all-not}
+use Rattle.base.proofs.Rules.{tests}
+use Rattle.record.specs.Records.{placeOkb}
+use Rattle.record.proofs.places_ok.Statement.{statement}
+use Rattle.record.proofs.places_ok.Tie as tie
+
+abbrev Inv-loop : tie.InvT-loop
+Inv-loop horizon states r i₀ i = (i ≤ 64) × (true ≡ all i (placeOkb horizon states r))
+
+abbrev μ-loop : tie.MeasureT-loop
+μ-loop horizon states r i₀ i = 64 - i
+
+loop-holds : tie.Need-loop-holds Inv-loop μ-loop
+unfolding all
+loop-holds c = (search needs, refl)
+
+place-ok-requires : tie.Need-place-ok-requires Inv-loop μ-loop
+place-ok-requires c κs = search needs
+
+returns : tie.Need-returns Inv-loop μ-loop
+returns c = all-not (c .before .before .before .loop .i) 64 _ (search needs) (search tests)
+
+add-i : tie.Need-add-i Inv-loop μ-loop
+add-i c = search needs
+
+loop-less : tie.Need-loop-less Inv-loop μ-loop
+loop-less c = search needs
+
+loop-again : tie.Need-loop-again Inv-loop μ-loop
+loop-again c =
+    let at-loop = c .before .before .before .loop in
+    (search needs, all-next (at-loop .i) _ (at-loop .inv .1) (search tests))
+
+returns-2 : tie.Need-returns-2 Inv-loop μ-loop
+returns-2 c =
+    let whole : c .before .loop .i ≡ 64 = omega arith in
+    rw (← whole) (c .before .loop .inv .1)
+
+pub places-ok-spec : {M : Type 1} → statement M
+places-ok-spec =
+    tie.close
+    (tie.spec
+    Inv-loop
+    μ-loop
+    loop-holds
+    place-ok-requires
+    returns
+    add-i
+    loop-less
+    loop-again
+    returns-2)
