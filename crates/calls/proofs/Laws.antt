@@ -6,11 +6,12 @@ use Prim.Native.Nat.{ℕ, zero, suc, _≤_, _<_}
 use mathlib.Core.Path.{_≡_, refl, sym, ap, _∙_, subst}
 use mathlib.Core.Logic.{_↔_, _≢_}
 use mathlib.Core.List.{List}
-use mathlib.Core.Bool.{_&&_}
+use mathlib.Core.Bool.{_&&_, not}
 use native.Mathlib.Nat.{le-trans}
 use native.Mathlib.Omega.{arith}
 use lib.Dec.{T as Is, leb}
 use lib.ListN.{length}
+use Rattle.base.specs.Checks.{_if_}
 use Rattle.base.proofs.Tests.{leb-iff, and-iff}
 use Rattle.base.proofs.Checks.{Passes, _or_, _and-then_, check, below, at-most, not-zero, unless}
 use Rattle.meaning.specs.Tables.{Table, tableOf, horizon}
@@ -56,6 +57,12 @@ module _ (b : List ℕ) where
 
   pub recordFault-iff : (r : Record) → (recordFault b r ≡ 0) ↔ (Sound b × ProperFor b r)
   recordFault-iff r = record-passes r .iff
+
+  -- as code asks: the table passed, H and n are its horizon and its number of states, and v is the number of the record
+  pub recordFault-on : (r : Record) (H n v : ℕ) → 0 ≡ tableFault b → H ≡ horizon (tableOf b) → n ≡ tableOf b .states
+      → v ≡ (8 if not (properb H n r)) → v ≡ recordFault b r
+  unfolding recordFault
+  recordFault-on r H n v passed h s e = rw (← passed, ← h, ← s) e
 
   pub letterFault-iff : (r : Record) (a : ℕ) → (letterFault b r a ≡ 0)
       ↔ ((Sound b × ProperFor b r) × ((a < tableOf b .letters) × (needed b (stepped b r (letter a)) ≤ r .room)))

@@ -98,10 +98,10 @@ fn line_fault(h: Head, l: Line) -> u8
     ensures { λ r. ⌜ r ≡ lineFault h l ⌝ }
 {
     let parts = bad_parts(h, l);
+    let ages = bad_ages(l);
     if parts {
         return 6;
     }
-    let ages = bad_ages(l);
     if ages {
         return 7;
     }
@@ -112,15 +112,16 @@ fn line_fault(h: Head, l: Line) -> u8
 fn lines_fault(t: &[u8], h: Head) -> u8
     ensures { λ r. ⌜ r ≡ firstOf (h .lines) (λ k. lineFault h (lineAt (now (t .entry)) k)) ⌝ }
 {
-    let lines = h.lines;
     let mut k = 0;
-    while k < lines {
+    let mut left = h.lines;
+    while 0 < left {
         let line = table::line_at(t, k);
         let number = line_fault(h, line);
         if number != 0 {
             return number;
         }
         k += 1;
+        left -= 1;
     }
     0
 }
@@ -134,18 +135,19 @@ pub fn table_fault(t: &[u8]) -> u8
         return 1;
     }
     let head = table::head_of(t);
-    if head.version != 1 {
+    let version = head.version != 1;
+    let counts = bad_counts(head);
+    let length = bad_length(head, whole);
+    let masks = bad_masks(head);
+    if version {
         return 2;
     }
-    let counts = bad_counts(head);
     if counts {
         return 3;
     }
-    let length = bad_length(head, whole);
     if length {
         return 4;
     }
-    let masks = bad_masks(head);
     if masks {
         return 5;
     }

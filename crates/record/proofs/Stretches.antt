@@ -99,7 +99,7 @@ newest-cong (suc n) f g h = ap₂ (λ (L : List Stretch) (p : Pair). push L n n 
 
 -- ---- more ages never need fewer stretches
 
-push-length : (L : List Stretch) (a b : ℕ) (p : Pair) → length L ≤ length (push L a b p)
+pub push-length : (L : List Stretch) (a b : ℕ) (p : Pair) → length L ≤ length (push L a b p)
 unfolding push
 push-length L a b p = go (eqb (p .possible) 0)
   where

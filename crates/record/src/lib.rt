@@ -33,7 +33,7 @@ pub struct Record {
 }
 
 // Two empty sets.
-pub fn no_pair() -> Pair
+fn no_pair() -> Pair
     ensures { λ x. ⌜ x ≡ noPair ⌝ }
 {
     Pair {
@@ -42,7 +42,7 @@ pub fn no_pair() -> Pair
     }
 }
 
-pub fn same_pair(p: Pair, q: Pair) -> bool
+fn same_pair(p: Pair, q: Pair) -> bool
     ensures { λ x. ⌜ x ≡ samePair p q ⌝ }
 {
     if p.sure != q.sure {

@@ -1,4 +1,4 @@
--- `faults::line_fault` asks what `lineFault` asks, in its order. Assumes nothing.
+-- `faults::line_fault` gives the numbers in the order of `lineFault`. Assumes nothing.
 use borrow.Author.Needs.{needs}
 use Rattle.base.proofs.Rules.{checks}
 use Rattle.faults.specs.Faults.{lineFault}
@@ -8,12 +8,12 @@ use Rattle.faults.proofs.line_fault.Tie as tie
 bad-parts-requires : tie.Need-bad-parts-requires
 bad-parts-requires c κs = search needs
 
+bad-ages-requires : tie.Need-bad-ages-requires
+bad-ages-requires c κs = search needs
+
 returns : tie.Need-returns
 unfolding lineFault
 returns c = search checks
-
-bad-ages-requires : tie.Need-bad-ages-requires
-bad-ages-requires c κs = search needs
 
 returns-2 : tie.Need-returns-2
 unfolding lineFault
@@ -24,5 +24,4 @@ unfolding lineFault
 returns-3 c = search checks
 
 pub line-fault-spec : {M : Type 1} → statement M
-line-fault-spec =
-    tie.close (tie.spec bad-parts-requires returns bad-ages-requires returns-2 returns-3)
+line-fault-spec = tie.close (tie.spec bad-parts-requires bad-ages-requires returns returns-2 returns-3)

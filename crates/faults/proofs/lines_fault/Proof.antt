@@ -1,6 +1,6 @@
 -- `faults::lines_fault` meets its contract: before line k, none of the lines below k has a number, so that line k's is the first
 -- if it has one; the lines left fall. Assumes nothing.
-use Prim.Native.Nat.{_-_, _≤_}
+use Prim.Native.Nat.{_+_}
 use mathlib.Core.Path.{_≡_, refl}
 use native.Mathlib.Omega.{arith}
 use borrow.Author.Needs.{needs}
@@ -12,10 +12,10 @@ use Rattle.faults.proofs.lines_fault.Statement.{statement}
 use Rattle.faults.proofs.lines_fault.Tie as tie
 
 abbrev Inv-loop : tie.InvT-loop
-Inv-loop t h lines k₀ k = (k ≤ h .lines) × (0 ≡ firstOf k (λ i. lineFault h (lineAt t i)))
+Inv-loop t h k₀ left₀ k left = (k + left ≡ h .lines) × (0 ≡ firstOf k (λ i. lineFault h (lineAt t i)))
 
 abbrev μ-loop : tie.MeasureT-loop
-μ-loop t h lines k₀ k = lines - k
+μ-loop t h k₀ left₀ k left = left
 
 loop-holds : tie.Need-loop-holds Inv-loop μ-loop
 unfolding firstOf
@@ -34,6 +34,9 @@ returns c =
 
 add-k : tie.Need-add-k Inv-loop μ-loop
 add-k c = search needs
+
+sub-left : tie.Need-sub-left Inv-loop μ-loop
+sub-left c = search needs
 
 loop-less : tie.Need-loop-less Inv-loop μ-loop
 loop-less c = search needs
@@ -57,6 +60,7 @@ lines-fault-spec =
     line-fault-requires
     returns
     add-k
+    sub-left
     loop-less
     loop-again
     returns-2)

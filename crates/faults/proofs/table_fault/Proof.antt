@@ -1,4 +1,4 @@
--- `faults::table_fault` asks what `tableFault` asks, in its order, of the head that was read. Assumes nothing.
+-- `faults::table_fault` gives the numbers in the order of `tableFault`, of the head that was read. Assumes nothing.
 use borrow.Author.Needs.{needs}
 use Rattle.base.proofs.Rules.{checks}
 use Rattle.faults.specs.Faults.{tableFault}
@@ -12,26 +12,26 @@ returns c = search checks
 head-of-requires : tie.Need-head-of-requires
 head-of-requires c κs = search needs
 
-returns-2 : tie.Need-returns-2
-unfolding tableFault
-returns-2 c = rw (← (c .before .before .head-of .ensures)) (search checks)
-
 bad-counts-requires : tie.Need-bad-counts-requires
 bad-counts-requires c κs = search needs
-
-returns-3 : tie.Need-returns-3
-unfolding tableFault
-returns-3 c = rw (← (c .before .before .before .before .head-of .ensures)) (search checks)
 
 bad-length-requires : tie.Need-bad-length-requires
 bad-length-requires c κs = search needs
 
-returns-4 : tie.Need-returns-4
-unfolding tableFault
-returns-4 c = rw (← (c .before .before .before .before .before .before .head-of .ensures)) (search checks)
-
 bad-masks-requires : tie.Need-bad-masks-requires
 bad-masks-requires c κs = search needs
+
+returns-2 : tie.Need-returns-2
+unfolding tableFault
+returns-2 c = rw (← (c .before .before .before .before .before .head-of .ensures)) (search checks)
+
+returns-3 : tie.Need-returns-3
+unfolding tableFault
+returns-3 c = rw (← (c .before .before .before .before .before .before .head-of .ensures)) (search checks)
+
+returns-4 : tie.Need-returns-4
+unfolding tableFault
+returns-4 c = rw (← (c .before .before .before .before .before .before .before .head-of .ensures)) (search checks depth 8)
 
 returns-5 : tie.Need-returns-5
 unfolding tableFault
@@ -50,12 +50,12 @@ table-fault-spec =
     (tie.spec
     returns
     head-of-requires
-    returns-2
     bad-counts-requires
-    returns-3
     bad-length-requires
-    returns-4
     bad-masks-requires
+    returns-2
+    returns-3
+    returns-4
     returns-5
     lines-fault-requires
     returns-6)
