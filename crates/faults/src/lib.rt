@@ -3,7 +3,8 @@
 ghost use mathlib.Core.Path.{_≡_};
 ghost use Rattle.base.specs.Checks.{firstOf};
 ghost use Rattle.table.specs.Table.{lineAt};
-ghost use Rattle.faults.specs.Faults.{badCounts, badLength, badMasks, badParts, badGreatest, badAges, lineFault, tableFault};
+ghost use Rattle.faults.specs.Faults.{badCounts, badLength, badMasks, badParts, badGreatest, badAges};
+ghost use Rattle.faults.specs.Faults.{lineFault, tableFault};
 use table::Head;
 use table::Line;
 

@@ -1,5 +1,5 @@
 -- The definitions on small inputs, by computation: the stretches of some pairs, verdicts after a start and after a gap, the
--- record that holds some pairs, and both sides of each clause of a proper record. Assumes nothing.
+-- record that holds some pairs, both sides of each clause of a proper record, and a record that is built. Assumes nothing.
 use Prim.Native.Nat.{ℕ, _-_}
 use mathlib.Core.Path.{_≡_, refl}
 use mathlib.Core.List.{List, [], _∷_, _++_, map}
@@ -17,6 +17,7 @@ use Rattle.record.specs.declared.Record.{Record}
 use Rattle.record.specs.Pairs.{Pairs, noPair, startPairs, gapPairs}
 use Rattle.record.specs.Verdicts.{says-no, unsure, verdictAt, settledAt}
 use Rattle.record.specs.Stretches.{firstAgeAt, firstAges, stretch, touches, push, newest, stretchesOf}
+use Rattle.record.specs.Building.{emptyRecord, overfull, appended, joined, pushed}
 use Rattle.record.specs.Records.{blank, blankRecord, inside, pairIn, pairsAt, recordOf, pairOkb, stretchOkb, followsb, blankb, placeOkb, properb}
 
 -- ---- stretches
@@ -82,6 +83,12 @@ pub said-of-seven : map (pairsAt 5 (recordOf 4 5 seven)) (0 ∷ 1 ∷ 2 ∷ 3 �
 unfolding pairsAt pairIn inside recordOf touches push newest
 said-of-seven = refl
 
+-- a count above 64, which is not proper, means all 64 places
+pub said-past-64 : map (pairsAt 5 (made 4 200 (stretch 1 2 half ∷ []) maybe)) (1 ∷ 2 ∷ 3 ∷ 6 ∷ [])
+    ≡ half ∷ half ∷ noPair ∷ maybe ∷ []
+unfolding pairsAt pairIn inside
+said-past-64 = refl
+
 -- ---- proper records, for H = 5 and 2 states
 
 -- two stretches, and a pair above H, in a room
@@ -135,3 +142,17 @@ pub unused-places : map (λ r. properb 5 2 r) (made 2 1 (stretch 0 0 half ∷ st
     ≡ false ∷ false ∷ true ∷ []
 unfolding properb placeOkb blankb followsb stretchOkb pairOkb all
 unused-places = refl
+
+-- ---- a record that is built
+
+-- the ages 0 to 5 of `seven`, some at once
+abbrev pub built : ℕ → Record
+built room =
+    let begun = pushed (pushed (emptyRecord room half) 0 1 half) 2 2 maybe in
+    pushed (pushed (pushed begun 3 3 noPair) 4 4 maybe) 5 5 maybe
+
+-- what goes on joins; the room may be full; one of 2 does not take 3 stretches, and nothing more is kept
+pub built-of-seven : ((built 4 ≡ recordOf 4 5 seven) × (built 3 ≡ recordOf 3 5 seven))
+    × ((built 2 ≡ overfull 2 half) × (pushed (built 2) 6 6 half ≡ overfull 2 half))
+unfolding pushed appended joined recordOf touches push newest
+built-of-seven = ((refl, refl), (refl, refl))

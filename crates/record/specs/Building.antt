@@ -3,7 +3,7 @@
 -- them than its room says so by its count. Assumes nothing: these are definitions.
 use Prim.Native.Nat.{ℕ, _+_, _-_}
 use mathlib.Core.List.{List, _++_, reverse}
-use mathlib.Core.Bool.{Bool, _||_, cond}
+use mathlib.Core.Bool.{_||_, cond}
 use lib.Dec.{eqb, leb, ltb}
 use lib.ListN.{length, replicate, set}
 use Rattle.record.specs.declared.Pair.{Pair}

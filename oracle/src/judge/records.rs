@@ -51,8 +51,7 @@ pub fn make(random: &mut Random) -> Case {
             Case::plain("one byte", load)
         }
         12 | 13 => {
-            change_byte(random, &mut load);
-            change_byte(random, &mut load);
+            tables::change_two(random, &mut load, change_byte);
             Case::plain("two bytes", load)
         }
         14 => Case::plain("wild", wild(random, held).load()),

@@ -29,8 +29,7 @@ pub fn make(random: &mut Random) -> Case {
             "one byte"
         }
         9..=11 => {
-            change_byte(random, &mut bytes);
-            change_byte(random, &mut bytes);
+            change_two(random, &mut bytes, change_byte);
             "two bytes"
         }
         12 => {
@@ -112,6 +111,15 @@ pub fn change_byte(random: &mut Random, bytes: &mut [u8]) {
     let before = |number: u8| number.saturating_sub(1);
     let edges = [0, 1, 2, before(n), n, before(m), m, 16, 17, 32, 33, 255];
     bytes[at] = other_byte(random, bytes[at], &edges);
+}
+
+/// Two bytes change, each as `change` does it.
+pub fn change_two(random: &mut Random, bytes: &mut [u8], change: fn(&mut Random, &mut [u8])) {
+    let before = bytes.to_vec();
+    let changed = |bytes: &[u8]| bytes.iter().zip(&before).filter(|(a, b)| a != b).count();
+    while changed(bytes) < 2 {
+        change(random, bytes);
+    }
 }
 
 fn cut(random: &mut Random, bytes: &mut Vec<u8>) {

@@ -2,7 +2,6 @@
 -- nothing.
 use mathlib.Core.Path.{sym}
 use borrow.Author.Needs.{needs}
-use Rattle.base.specs.Masks.{pastStates}
 use Rattle.base.proofs.Masks.{past-none}
 use Rattle.base.proofs.past_states.Statement.{statement}
 use Rattle.base.proofs.past_states.Tie as tie

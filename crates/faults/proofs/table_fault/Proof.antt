@@ -23,26 +23,36 @@ bad-masks-requires c κs = search needs
 
 returns-2 : tie.Need-returns-2
 unfolding tableFault
-returns-2 c = rw (← (c .before .before .before .before .before .head-of .ensures)) (search checks)
+returns-2 c =
+    let read = c .before .before .before .before .before .head-of in
+    rw (← (read .ensures)) (search checks)
 
 returns-3 : tie.Need-returns-3
 unfolding tableFault
-returns-3 c = rw (← (c .before .before .before .before .before .before .head-of .ensures)) (search checks)
+returns-3 c =
+    let read = c .before .before .before .before .before .before .head-of in
+    rw (← (read .ensures)) (search checks)
 
 returns-4 : tie.Need-returns-4
 unfolding tableFault
-returns-4 c = rw (← (c .before .before .before .before .before .before .before .head-of .ensures)) (search checks depth 8)
+returns-4 c =
+    let read = c .before .before .before .before .before .before .before .head-of in
+    rw (← (read .ensures)) (search checks depth 8)
 
 returns-5 : tie.Need-returns-5
 unfolding tableFault
-returns-5 c = rw (← (c .before .before .before .before .before .before .before .before .head-of .ensures)) (search checks depth 8)
+returns-5 c =
+    let read = c .before .before .before .before .before .before .before .before .head-of in
+    rw (← (read .ensures)) (search checks depth 8)
 
 lines-fault-requires : tie.Need-lines-fault-requires
 lines-fault-requires c κs = search needs
 
 returns-6 : tie.Need-returns-6
 unfolding tableFault
-returns-6 c = rw (← (c .before .before .before .before .before .before .before .before .before .head-of .ensures)) (search checks depth 8)
+returns-6 c =
+    let read = c .before .before .before .before .before .before .before .before .before .head-of in
+    rw (← (read .ensures)) (search checks depth 8)
 
 pub table-fault-spec : {M : Type 1} → statement M
 table-fault-spec =

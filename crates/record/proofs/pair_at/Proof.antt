@@ -18,7 +18,9 @@ pair-in-requires-2 : tie.Need-pair-in-requires-2
 pair-in-requires-2 c κs = search needs
 
 returns-3 : tie.Need-returns-3
-returns-3 c = let n = c .before .before .before .before .args in pairsAt-in _ _ _ (n .r .count) _ (search needs) (omega arith) (search needs)
+returns-3 c =
+    let a = c .before .before .before .before .args in
+    pairsAt-in _ _ _ (a .r .count) _ (search needs) (omega arith) (search needs)
 
 pub pair-at-spec : {M : Type 1} → statement M
 pair-at-spec = tie.close (tie.spec returns pair-in-requires returns-2 pair-in-requires-2 returns-3)

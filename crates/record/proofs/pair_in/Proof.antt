@@ -1,7 +1,7 @@
 -- `record::pair_in` meets its contract: the places from i on do not have the age, so that the pair is that of the places below i,
 -- which fall. Assumes nothing.
 use Prim.Native.Nat.{_≤_}
-use mathlib.Core.Path.{_≡_, refl, sym, _∙_}
+use mathlib.Core.Path.{_≡_, refl, _∙_}
 use borrow.Author.Needs.{needs}
 use Rattle.record.specs.Records.{pairIn}
 use Rattle.record.proofs.Building.{pairIn-here, pairIn-on, pairIn-none}

@@ -37,7 +37,10 @@ follows-requires c κs = search needs
 
 returns-4 : tie.Need-returns-4
 unfolding placeOkb
-returns-4 c = rw (← (c .before .before .before .before .before .before .before .place-at .ensures), ← (c .before .place-at2 .ensures)) (search tests)
+returns-4 c =
+    let here = c .before .before .before .before .before .before .before .place-at in
+    let last = c .before .place-at2 in
+    rw (← (here .ensures), ← (last .ensures)) (search tests)
 
 pub place-ok-spec : {M : Type 1} → statement M
 place-ok-spec =
