@@ -1,93 +1,26 @@
--- What a push means: a record that holds the stretches L within its room holds, after it, `push L ..` (`push-held`).
--- Before that, what code learns of two neighbours, one fact for each way that it takes. Assumes nothing.
-use Prim.Native.Nat.{ℕ, zero, suc, _+_, _-_, _≤_, _<_, min}
+-- What a push means: a record that holds the stretches L within its room holds, after it, `push L ..` (`push-held`); more than
+-- the room takes are told by its count (`held-over`); once all ages 0 to H are pushed, it is the record that holds their pairs
+-- (`held-record`). Assumes nothing.
+use Prim.Native.Nat.{ℕ, suc, _-_, _≤_, _<_}
 use mathlib.Core.Path.{_≡_, refl, sym, ap, _∙_, subst}
 use mathlib.Core.Logic.{_↔_}
 use mathlib.Core.List.{List, [], _∷_, _++_, reverse, reverseAux-eq}
-use mathlib.Core.Bool.{Bool, true, false, not}
-use native.Mathlib.Nat.{not-suc-le-zero}
+use mathlib.Core.Bool.{Bool, true, false}
 use native.Mathlib.Decide.{decLe}
 use native.Mathlib.Numerals.{add-one}
 use native.Mathlib.Omega.{arith}
 use lib.Dec.{T as Is, eqb, leb, ltb}
 use lib.ListN.{length, getD, replicate, set, length-reverse}
 use lib.Seq.{getD-at, set-at}
-use borrow.Author.Tests.{leb-true, leb-false, eq-eqb, ne-eqb, lt-ltb, le-ltb, lt-leb, le-leb}
-use Rattle.base.proofs.Rules.{also, not-also}
+use borrow.Author.Tests.{leb-true, leb-false, ne-eqb, le-ltb, lt-leb, le-leb}
 use Rattle.record.specs.declared.Pair.{Pair}
 use Rattle.record.specs.declared.Stretch.{Stretch}
 use Rattle.record.specs.declared.Record.{Record}
-use Rattle.record.specs.Pairs.{Pairs, noPair}
-use Rattle.record.specs.Stretches.{samePair, stretch, touches, putIf, put, pushIf, push, newest}
-use Rattle.record.specs.Records.{blank, inside, pairIn, pairsAt, recordOf, followsb}
+use Rattle.record.specs.Pairs.{Pairs}
+use Rattle.record.specs.Stretches.{stretch, touches, putIf, put, pushIf, push, newest}
+use Rattle.record.specs.Records.{blank, recordOf}
 use Rattle.record.specs.Building.{emptyRecord, overfull, heldIn, appended, joined, pushed}
 use Rattle.record.proofs.Stretches.{touches-iff, push-length}
-
--- ---- the pair of an age, place by place
-
--- x is the place before i, and f whether the age is in it
-module _ (l : List Stretch) (k : ℕ) (x : Stretch) (f : Bool) where
-  pub pairIn-here : (i : ℕ) → 0 < i → x ≡ getD l (i - 1) blank → f ≡ inside x k → f ≡ true → x .pair ≡ pairIn l i k
-  unfolding pairIn
-  pairIn-here zero h e t is = absurd (not-suc-le-zero h)
-  pairIn-here (suc i) h e t is = let q : suc i - 1 ≡ i = omega arith in
-      let here : x ≡ getD l i blank = rw q at e in
-      rw (← here, ← t, is)
-
-  pub pairIn-on : (i : ℕ) → 0 < i → x ≡ getD l (i - 1) blank → f ≡ inside x k → f ≡ false
-      → pairIn l (i - 1) k ≡ pairIn l i k
-  unfolding pairIn
-  pairIn-on zero h e t is = absurd (not-suc-le-zero h)
-  pairIn-on (suc i) h e t is = let q : suc i - 1 ≡ i = omega arith in
-      let here : x ≡ getD l i blank = rw q at e in
-      rw (q, ← here, ← t, is)
-
-pub pairIn-none : (l : List Stretch) (i k : ℕ) → i ≤ 0 → noPair ≡ pairIn l i k
-unfolding pairIn
-pairIn-none l zero k h = refl
-pairIn-none l (suc i) k h = absurd (not-suc-le-zero h)
-
--- above H, and within the first n places
-module _ (H : ℕ) (r : Record) (k : ℕ) where
-  pub pairsAt-high : H < k → r .above ≡ pairsAt H r k
-  unfolding pairsAt
-  pairsAt-high l = rw (lt-leb k H l)
-
-  pub pairsAt-in : (n : ℕ) (p : Pair) → k ≤ H → n ≡ min (r .count) 64 → p ≡ pairIn (r .places) n k → p ≡ pairsAt H r k
-  unfolding pairsAt
-  pairsAt-in n p l e h = rw (le-leb k H l, ← e) h
-
--- ---- two neighbours
-
-module _ (x : Stretch) (a : ℕ) (p : Pair) where
-  pub touches-low : a ≤ x .last → false ≡ touches x a p
-  unfolding touches
-  touches-low l = not-also _ _ _ (ne-eqb (suc (x .last)) a (λ e. omega arith)) refl
-
-  pub touches-apart : x .last + 1 < a → false ≡ touches x a p
-  unfolding touches
-  touches-apart l = not-also _ _ _ (ne-eqb (suc (x .last)) a (λ e. omega arith)) refl
-
-  pub touches-next : (v : Bool) → x .last < a → a ≤ x .last + 1 → v ≡ samePair (x .pair) p → v ≡ touches x a p
-  unfolding touches
-  touches-next v l m e = also (eqb (suc (x .last)) a) (samePair (x .pair) p) v (eq-eqb (suc (x .last)) a (omega arith)) e
-
-module _ (x y : Stretch) where
-  pub follows-low : y .first ≤ x .last → false ≡ followsb x y
-  unfolding followsb
-  follows-low l = not-also _ _ _ (le-ltb (x .last) (y .first) l) refl
-
-  pub follows-apart : x .last + 1 < y .first → true ≡ followsb x y
-  unfolding followsb
-  follows-apart l = rw (lt-ltb (x .last) (y .first) (omega arith), ne-eqb (suc (x .last)) (y .first) (λ e. omega arith))
-
-  pub follows-next : (f : Bool) → x .last < y .first → y .first ≤ x .last + 1 → f ≡ samePair (x .pair) (y .pair)
-      → not f ≡ followsb x y
-  unfolding followsb
-  follows-next f l m e =
-      rw (lt-ltb (x .last) (y .first) l, eq-eqb (suc (x .last)) (y .first) (omega arith)) (ap not e)
-
--- ---- what a push means
 
 reverse-front : (x : Stretch) (L M : List Stretch) → reverse (x ∷ L) ++ M ≡ reverse L ++ x ∷ M
 reverse-front x L M = sym (reverseAux-eq (x ∷ L) M) ∙ reverseAux-eq L (x ∷ M)

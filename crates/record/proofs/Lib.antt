@@ -2,8 +2,9 @@ pub mod Stretches
 pub mod Longest
 pub mod Records
 pub mod Properness
+pub mod Asked
+pub mod Building
 pub mod Pairs
 pub mod Verdicts
 pub mod Counts
 pub mod Cases
-pub mod Building

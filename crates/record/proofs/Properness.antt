@@ -7,7 +7,6 @@ use native.Mathlib.Decide.{decLt}
 use native.Mathlib.Omega.{arith}
 use lib.Bits.{bitOr}
 use lib.Dec.{T as Is, eqb, leb, ltb}
-use borrow.Author.Tests.{le-leb, not-true, not-false}
 use Rattle.base.specs.Masks.{Part, pastStates, all}
 use Rattle.base.proofs.Tests.{eqb-iff, leb-iff, ltb-iff, not-iff, and-iff, or-iff, all-iff, ne-iff}
 use Rattle.base.proofs.Checks.{within}
@@ -199,15 +198,3 @@ module _ (H n : ℕ) (r : Record) where
 
           each : Places
           each i b = placeOk-iff i .1 ((λ l. (p .each i l, before i l)), λ l. p .unused i l b)
-
--- as code asks: f is what it found of the places, once room and count have passed
-module _ (H n : ℕ) (r : Record) (f : Bool) (low : 1 ≤ r .room) (high : r .room ≤ 64) (fits : r .count ≤ r .room)
-    (found : f ≡ all 64 (placeOkb H n r)) where
-  pub proper-not : not f ≡ true → false ≡ properb H n r
-  unfolding properb
-  proper-not e = rw (le-leb 1 (r .room) low, le-leb (r .room) 64 high, le-leb (r .count) (r .room) fits, ← found, not-true f e)
-
-  pub proper-by : (v : Bool) → not f ≡ false → v ≡ pairOkb n (r .above) → v ≡ properb H n r
-  unfolding properb
-  proper-by v e h =
-      rw (le-leb 1 (r .room) low, le-leb (r .room) 64 high, le-leb (r .count) (r .room) fits, ← found, not-false f e) h

@@ -1,6 +1,6 @@
 -- `record::follows` meets its contract: y begins within x, past the age behind it, or at that age. Assumes nothing.
 use borrow.Author.Needs.{needs}
-use Rattle.record.proofs.Building.{follows-low, follows-apart, follows-next}
+use Rattle.record.proofs.Asked.{follows-low, follows-apart, follows-next}
 use Rattle.record.proofs.follows.Statement.{statement}
 use Rattle.record.proofs.follows.Tie as tie
 

@@ -1,7 +1,7 @@
 -- `record::pair_at` meets its contract: above H, with more places counted than there are, and otherwise. Assumes nothing.
 use native.Mathlib.Omega.{arith}
 use borrow.Author.Needs.{needs}
-use Rattle.record.proofs.Building.{pairsAt-high, pairsAt-in}
+use Rattle.record.proofs.Asked.{pairsAt-high, pairsAt-in}
 use Rattle.record.proofs.pair_at.Statement.{statement}
 use Rattle.record.proofs.pair_at.Tie as tie
 

@@ -4,7 +4,7 @@ use Prim.Native.Nat.{_≤_}
 use mathlib.Core.Path.{_≡_, refl, _∙_}
 use borrow.Author.Needs.{needs}
 use Rattle.record.specs.Records.{pairIn}
-use Rattle.record.proofs.Building.{pairIn-here, pairIn-on, pairIn-none}
+use Rattle.record.proofs.Asked.{pairIn-here, pairIn-on, pairIn-none}
 use Rattle.record.proofs.pair_in.Statement.{statement}
 use Rattle.record.proofs.pair_in.Tie as tie
 

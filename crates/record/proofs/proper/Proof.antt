@@ -1,7 +1,7 @@
 -- `record::proper` asks what `properb` asks, in its order. Assumes nothing.
 use borrow.Author.Needs.{needs}
 use Rattle.base.proofs.Rules.{tests}
-use Rattle.record.proofs.Properness.{proper-not, proper-by}
+use Rattle.record.proofs.Asked.{proper-not, proper-by}
 use Rattle.record.specs.Records.{properb}
 use Rattle.record.proofs.proper.Statement.{statement}
 use Rattle.record.proofs.proper.Tie as tie

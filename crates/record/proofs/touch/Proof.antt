@@ -1,6 +1,6 @@
 -- `record::touch` meets its contract: below the age directly behind x, past it, and at it. Assumes nothing.
 use borrow.Author.Needs.{needs}
-use Rattle.record.proofs.Building.{touches-low, touches-apart, touches-next}
+use Rattle.record.proofs.Asked.{touches-low, touches-apart, touches-next}
 use Rattle.record.proofs.touch.Statement.{statement}
 use Rattle.record.proofs.touch.Tie as tie
 
