@@ -2,3 +2,4 @@ pub mod Tests
 pub mod Masks
 pub mod Checks
 pub mod Rules
+pub mod Cases

@@ -6,7 +6,9 @@
 // Kind 2, a record and a table: 774 bytes and the rest. Answer: the number of the first check that fails, 1 to 8, or 0. The 774
 // bytes are the room, the count, 64 places of 12 bytes (first, last, sure, possible) and the pair above H.
 //
-// Numbers are big-endian. What is read and written is tested and not proved.
+// Numbers are big-endian. What is read and written is tested and not proved. The cases in the file stdin beside src/ are of
+// document 01's table, whole and cut to 11 bytes, with the records of a start, of a gap, and of a gap past H; the answers in
+// the file stdout are worked out from the document.
 ghost use Prim.Native.Nat.{_+_, _≤_};
 ghost use mathlib.Core.Path.{_≡_};
 ghost use lib.ListN.{length};
