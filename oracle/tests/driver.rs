@@ -1,17 +1,10 @@
 //! The comparison fails where it should: on a program that prints something else, ends badly or cannot be run, and on
 //! words that make no sense.
 
-use std::process::{Command, Output, Stdio};
+mod common;
 
-const ORACLE: &str = env!("CARGO_BIN_EXE_oracle");
-
-fn oracle(words: &[&str]) -> Output {
-    Command::new(ORACLE)
-        .args(words)
-        .stdin(Stdio::null())
-        .output()
-        .unwrap()
-}
+use common::{oracle, refuses, ORACLE};
+use oracle::generate::kinds::KINDS;
 
 /// The comparison over the least number of sessions of each kind.
 fn compared(program: &[&str]) -> (Option<i32>, String) {
@@ -20,7 +13,7 @@ fn compared(program: &[&str]) -> (Option<i32>, String) {
 
 fn compared_within(patience: &str, program: &[&str]) -> (Option<i32>, String) {
     let mut words = vec!["compare", "--seed", "3", "--patience", patience];
-    let counts: Vec<String> = (oracle::generate::kinds::KINDS.iter())
+    let counts: Vec<String> = (KINDS.iter())
         .map(|kind| format!("{}={}", kind.name, kind.least))
         .collect();
     for count in &counts {
@@ -28,11 +21,7 @@ fn compared_within(patience: &str, program: &[&str]) -> (Option<i32>, String) {
     }
     words.push("--");
     words.extend(program);
-    let output = oracle(&words);
-    (
-        output.status.code(),
-        String::from_utf8(output.stdout).unwrap(),
-    )
+    oracle(&words)
 }
 
 #[test]
@@ -102,9 +91,8 @@ fn a_program_that_is_not_there_fails() {
 
 #[test]
 fn too_few_sessions_are_no_comparison() {
-    let output = oracle(&["compare", "--each", "5", "--", ORACLE, "watch"]);
-    assert_eq!(output.status.code(), Some(1));
-    let text = String::from_utf8(output.stdout).unwrap();
+    let (status, text) = oracle(&["compare", "--each", "5", "--", ORACLE, "watch"]);
+    assert_eq!(status, Some(1));
     assert!(text.contains("rooms: 5 sessions cannot reach"), "{text}");
 }
 
@@ -131,10 +119,6 @@ fn bad_words_are_refused() {
         &["session", "tiny", "1", "1"],
     ];
     for words in bad {
-        let output = oracle(words);
-        assert_eq!(output.status.code(), Some(2), "{words:?}");
-        assert!(output.stdout.is_empty(), "{words:?}");
-        let error = String::from_utf8(output.stderr).unwrap();
-        assert!(error.starts_with("oracle: "), "{words:?}: {error}");
+        refuses(words);
     }
 }

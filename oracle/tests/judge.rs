@@ -1,15 +1,16 @@
 //! The judgement passes a right program and refuses liars: in what they say of a table or a record, in how much they
 //! say, and in how they end.
 
+mod common;
+
+use common::{oracle, refuses, ORACLE};
 use oracle::judge::probe::{answer, parted, serve, Kind};
 use oracle::judge::{judge, Part, Reached};
 use oracle::record::{broken, Clause, CLAUSES};
 use oracle::run::Failure;
 use oracle::table::Table;
 use std::io::Write;
-use std::process::{Command, Output, Stdio};
-
-const ORACLE: &str = env!("CARGO_BIN_EXE_oracle");
+use std::process::{Command, Stdio};
 
 /// As many cases as it takes to reach the goals.
 const CASES: usize = 6_000;
@@ -206,24 +207,12 @@ fn a_record_comes_after_its_table() {
     assert!(why.contains("(orders: 1 before 8; "), "{why}");
 }
 
-fn oracle(words: &[&str]) -> Output {
-    Command::new(ORACLE)
-        .args(words)
-        .stdin(Stdio::null())
-        .output()
-        .unwrap()
-}
-
 fn judged_within(patience: &str, program: &[&str]) -> (Option<i32>, String) {
     let cases = CASES.to_string();
     let mut words = vec!["judge", "--seed", "3", "--patience", patience];
     words.extend(["--tables", &cases, "--records", &cases, "--"]);
     words.extend(program);
-    let output = oracle(&words);
-    (
-        output.status.code(),
-        String::from_utf8(output.stdout).unwrap(),
-    )
+    oracle(&words)
 }
 
 /// Why a shell command is refused; it is refused in this many parts.
@@ -246,8 +235,8 @@ fn the_probe_passes() {
 #[test]
 fn batches_are_judged_one_by_one() {
     let words = ["judge", "--tables", "45000", "--records", "41000", "--"];
-    let output = oracle(&[&words[..], &[ORACLE, "probe"]].concat());
-    let text = String::from_utf8(output.stdout).unwrap();
+    let (status, text) = oracle(&[&words[..], &[ORACLE, "probe"]].concat());
+    assert_eq!(status, Some(0), "{text}");
     let last = "\n45000 tables and 41000 records alike, 0 failed\n";
     assert!(text.ends_with(last), "{text}");
 }
@@ -330,8 +319,6 @@ fn bad_words_are_refused() {
         &["probe", "--ages"],
     ];
     for words in bad {
-        let output = oracle(words);
-        assert_eq!(output.status.code(), Some(2), "{words:?}");
-        assert!(output.stdout.is_empty(), "{words:?}");
+        refuses(words);
     }
 }

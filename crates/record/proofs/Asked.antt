@@ -1,9 +1,10 @@
 -- What the functions of `record` learn by asking, a fact for each way that one takes: the pair of an age, two neighbours, a
 -- proper record. Assumes nothing.
 use Prim.Native.Nat.{ℕ, zero, suc, _+_, _-_, _≤_, _<_, min}
-use mathlib.Core.Path.{_≡_, refl, ap}
+use mathlib.Core.Path.{_≡_, refl, sym, ap, _∙_}
+use mathlib.Core.Logic.{_≢_}
 use mathlib.Core.List.{List}
-use mathlib.Core.Bool.{Bool, true, false, not}
+use mathlib.Core.Bool.{Bool, true, false, _&&_, not}
 use native.Mathlib.Nat.{not-suc-le-zero}
 use native.Mathlib.Omega.{arith}
 use lib.Dec.{eqb}
@@ -55,13 +56,15 @@ module _ (H : ℕ) (r : Record) (k : ℕ) where
 -- ---- two neighbours
 
 module _ (x : Stretch) (a : ℕ) (p : Pair) where
-  pub touches-low : a ≤ x .last → false ≡ touches x a p
+  apart : suc (x .last) ≢ a → false ≡ touches x a p
   unfolding touches
-  touches-low l = not-also _ _ _ (ne-eqb (suc (x .last)) a (λ e. omega arith)) refl
+  apart d = not-also _ _ _ (ne-eqb (suc (x .last)) a d) refl
+
+  pub touches-low : a ≤ x .last → false ≡ touches x a p
+  touches-low l = apart (λ e. omega arith)
 
   pub touches-apart : x .last + 1 < a → false ≡ touches x a p
-  unfolding touches
-  touches-apart l = not-also _ _ _ (ne-eqb (suc (x .last)) a (λ e. omega arith)) refl
+  touches-apart l = apart (λ e. omega arith)
 
   pub touches-next : (v : Bool) → x .last < a → a ≤ x .last + 1 → v ≡ samePair (x .pair) p → v ≡ touches x a p
   unfolding touches
@@ -87,11 +90,12 @@ module _ (x y : Stretch) where
 -- f is what was found of the places, once room and count have passed
 module _ (H n : ℕ) (r : Record) (f : Bool) (low : 1 ≤ r .room) (high : r .room ≤ 64) (fits : r .count ≤ r .room)
     (found : f ≡ all 64 (placeOkb H n r)) where
-  pub proper-not : not f ≡ true → false ≡ properb H n r
+  left : properb H n r ≡ (f && pairOkb n (r .above))
   unfolding properb
-  proper-not e = rw (le-leb 1 (r .room) low, le-leb (r .room) 64 high, le-leb (r .count) (r .room) fits, ← found, not-true f e)
+  left = rw (le-leb 1 (r .room) low, le-leb (r .room) 64 high, le-leb (r .count) (r .room) fits, ← found)
+
+  pub proper-not : not f ≡ true → false ≡ properb H n r
+  proper-not e = sym (left ∙ ap (λ (t : Bool). t && pairOkb n (r .above)) (not-true f e))
 
   pub proper-by : (v : Bool) → not f ≡ false → v ≡ pairOkb n (r .above) → v ≡ properb H n r
-  unfolding properb
-  proper-by v e h =
-      rw (le-leb 1 (r .room) low, le-leb (r .room) 64 high, le-leb (r .count) (r .room) fits, ← found, not-false f e) h
+  proper-by v e h = h ∙ sym (left ∙ ap (λ (t : Bool). t && pairOkb n (r .above)) (not-false f e))

@@ -1,4 +1,4 @@
-//! What several tests share: the worked session's table, and what both forms answer.
+//! What several tests share: the worked session's table, what both forms answer, and the program run as a command.
 #![allow(dead_code)]
 
 use oracle::ages::Ages;
@@ -6,6 +6,31 @@ use oracle::generate::draft::{line, Draft, TableDraft, KEEPS, NONE, RESETS};
 use oracle::session::Symbol;
 use oracle::spells::Spells;
 use oracle::watch::{answers, lines};
+use std::process::{Command, Output, Stdio};
+
+pub const ORACLE: &str = env!("CARGO_BIN_EXE_oracle");
+
+fn run(words: &[&str]) -> Output {
+    (Command::new(ORACLE).args(words).stdin(Stdio::null()))
+        .output()
+        .unwrap()
+}
+
+/// Its exit status, and what it prints, without input.
+pub fn oracle(words: &[&str]) -> (Option<i32>, String) {
+    let output = run(words);
+    let text = String::from_utf8(output.stdout).unwrap();
+    (output.status.code(), text)
+}
+
+/// Words that make no sense: it says so, and does nothing.
+pub fn refuses(words: &[&str]) {
+    let output = run(words);
+    assert_eq!(output.status.code(), Some(2), "{words:?}");
+    assert!(output.stdout.is_empty(), "{words:?}");
+    let error = String::from_utf8(output.stderr).unwrap();
+    assert!(error.starts_with("oracle: "), "{words:?}: {error}");
+}
 
 /// The table of the worked session: 0 refreshed, 1 look; state 0 waiting, state 1 fresh.
 pub fn board() -> TableDraft {
