@@ -1,6 +1,7 @@
 -- Checks in their order, read back: `Fails t A` says that the test t fails just where A holds, and `Passes n A` that no number
 -- is given just where A holds. Checks are put together as the numbers are: `or` for `||`, `check` for `if`, `and-then` for
--- `then`, `each` for `firstOf`; then single tests. Assumes nothing.
+-- `then`, `each` for `firstOf`. Then the first number as a loop finds it (`first-here`, `first-on`, `first-all`), and single
+-- tests. Assumes nothing.
 use Prim.Native.Nat.{ℕ, zero, suc, _+_, _/_, _^_, _≤_, _<_}
 use mathlib.Core.Path.{_≡_, refl, sym, subst, _∙_}
 use mathlib.Core.Logic.{_↔_, _≢_, Iff·trans}

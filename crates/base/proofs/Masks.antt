@@ -1,7 +1,7 @@
 -- Sets of states: two masks with the same states are the same mask (`ext-has`), and which states a mask made of others has
--- (`has-or`, `has-and`, `has-bit`, `has-full`, `has-pick`, `has-cond`, `has-union`). Then: below 2 ^ n, parts, the empty mask,
--- the tests `hasb` and `m / 2 ^ i % 2`, and the largest of some numbers (`le-most`, `most-le`, `most-attained`). Assumes
--- nothing.
+-- (`has-or`, `has-and`, `has-bit`, `has-full`, `has-pick`, `has-cond`, `has-union`). Then: below 2 ^ n (`past-below`), parts,
+-- the empty mask, the tests `hasb` and `m / 2 ^ i % 2`, and the largest of some numbers (`le-most`, `most-next`, `most-le`,
+-- `most-attained`). Assumes nothing.
 use Prim.Native.Nat.{ℕ, zero, suc, _+_, _-_, _/_, _%_, _^_, _≤_, _<_, suc-le-suc, min, max}
 use mathlib.Core.Path.{_≡_, refl, sym, ap, _∙_, subst}
 use mathlib.Core.Logic.{_↔_, _⊎_, inl, inr, _≢_, ⊎-elim, Iff·rfl}

@@ -1,6 +1,6 @@
 -- What a test says, as a fact: `eqb-iff`, `ne-iff`, `leb-iff`, `ltb-iff` for two numbers, `beq-iff` for two flags; `and-iff`,
--- `or-iff` and `not-iff` for tests put together, `all-iff` for a test of all numbers below n. `is-true` and `is-false` go from
--- the fact to the test's value. Assumes nothing.
+-- `or-iff` and `not-iff` for tests put together, `all-iff` for a test of all numbers below n, which a loop takes by `all-next`
+-- and `all-not`. `is-true` and `is-false` go from the fact to the test's value. Assumes nothing.
 use Prim.Native.Nat.{ℕ, zero, suc, _+_, _≤_, _<_}
 use mathlib.Core.Path.{_≡_, refl, sym, subst}
 use mathlib.Core.Logic.{_↔_, _⊎_, inl, inr, _≢_, ⊎-elim, Iff·rfl, Iff·trans, Iff·not}

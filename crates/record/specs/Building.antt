@@ -38,17 +38,15 @@ appended r x =
 abbrev pub lastPlace : Record → Stretch
 lastPlace r = place r (r .count - 1)
 
--- the last stretch goes on to the age b; without one, nothing changes
+-- the last stretch goes on to the age b
 unfoldable pub joined : Record → ℕ → Record
 joined r b =
-    cond (eqb (r .count) 0 || ltb 64 (r .count))
-    r
-    (record {
+    record {
       room = r .room;
       count = r .count;
       places = set (r .places) (r .count - 1) (stretch (lastPlace r .first) b (lastPlace r .pair));
       above = r .above;
-    })
+    }
 
 -- the ages a to b, all with the pair p, behind the stretches of the ages below a: the last one goes on, or one begins; none
 -- where nothing is possible; and what was too much stays so

@@ -90,7 +90,7 @@ fn pair_in(r: Record, n: u8, age: u32) -> Pair
 }
 
 // The pair of the age; above H it is the one for all of those.
-pub fn pair_at(r: Record, horizon: u32, age: u32) -> Pair
+pub fn pair_at(horizon: u32, r: Record, age: u32) -> Pair
     ensures { λ x. ⌜ x ≡ pairsAt horizon r age ⌝ }
 {
     if horizon < age {
@@ -298,16 +298,11 @@ fn touch(x: Stretch, a: u32, p: Pair) -> bool
 
 // The last stretch goes on to the age b.
 fn join(r: Record, b: u32) -> Record
+    requires { ⌜ 0 < r .count ⌝ }
+    requires { ⌜ r .count ≤ 64 ⌝ }
     ensures { λ s. ⌜ s ≡ joined r b ⌝ }
 {
-    let count = r.count;
-    if count == 0 {
-        return r;
-    }
-    if 64 < count {
-        return r;
-    }
-    let at = (count - 1) as usize;
+    let at = (r.count - 1) as usize;
     let mut x = r.places[at];
     x.last = b;
     let mut next = r;

@@ -1,17 +1,8 @@
--- `record::join` asks what `joined` asks, in its order. Assumes nothing.
+-- `record::join` meets its contract: the place of the last stretch is written, and no other. Assumes nothing.
 use borrow.Author.Needs.{needs}
-use Rattle.base.proofs.Rules.{tests}
 use Rattle.record.specs.Building.{joined}
 use Rattle.record.proofs.join.Statement.{statement}
 use Rattle.record.proofs.join.Tie as tie
-
-returns : tie.Need-returns
-unfolding joined
-returns c = search tests
-
-returns-2 : tie.Need-returns-2
-unfolding joined
-returns-2 c = search tests
 
 sub-at : tie.Need-sub-at
 sub-at c = search needs
@@ -31,20 +22,10 @@ mul-x-2 c = search needs
 element-set-from-x : tie.Need-element-set-from-x
 element-set-from-x c = search needs
 
-returns-3 : tie.Need-returns-3
+returns : tie.Need-returns
 unfolding joined
-returns-3 c = search tests
+returns c = cc
 
 pub join-spec : {M : Type 1} → statement M
 join-spec =
-    tie.close
-    (tie.spec
-    returns
-    returns-2
-    sub-at
-    cast-at
-    mul-x
-    element-copy-out-x
-    mul-x-2
-    element-set-from-x
-    returns-3)
+    tie.close (tie.spec sub-at cast-at mul-x element-copy-out-x mul-x-2 element-set-from-x returns)
