@@ -1,8 +1,9 @@
 //! A set of configurations written down age by age: for each age 0 to H the states held at it, and at place H + 1 the
 //! states held at any age above H. Nothing is saved: a horizon of a year makes 31,622,402 places.
 
+use crate::record::{Pair, Place};
 use crate::table::{States, Table};
-use crate::watch::Configurations;
+use crate::watch::{Configurations, Row};
 
 #[derive(Clone, Debug, PartialEq, Eq)]
 pub struct Ages {
@@ -44,6 +45,16 @@ impl Configurations for Ages {
         set
     }
 
+    fn at_ages(table: &Table, rows: &[Row]) -> Ages {
+        let mut set = Ages::empty(table);
+        for (states, ages) in rows {
+            for age in *ages.start()..=(*ages.end()).min(table.horizon + 1) {
+                set.add(*states, age);
+            }
+        }
+        set
+    }
+
     fn after_letter(&self, table: &Table, letter: u8) -> Ages {
         let lines: Vec<_> = table.on(letter).collect();
         let mut after = Ages::empty(table);
@@ -77,11 +88,26 @@ impl Configurations for Ages {
         self == other
     }
 
-    fn stretches(sure: &Ages, possible: &Ages, table: &Table) -> usize {
-        let pair = |age| (sure.at(age), possible.at(age));
-        let begins = |age| age == 0 || pair(age - 1) != pair(age);
-        (0..=table.horizon)
-            .filter(|&age| possible.at(age) != 0 && begins(age))
-            .count()
+    fn above(&self, table: &Table) -> States {
+        self.at(table.horizon + 1)
+    }
+
+    fn stretches(sure: &Ages, possible: &Ages, table: &Table) -> Vec<Place> {
+        let mut runs: Vec<Place> = Vec::new();
+        for age in 0..=table.horizon as u32 {
+            let at = |set: &Ages| set.at(u64::from(age));
+            let (sure, possible) = (at(sure), at(possible));
+            let pair = Pair { sure, possible };
+            match runs.last_mut() {
+                _ if possible == 0 => {}
+                Some(run) if run.last + 1 == age && run.pair == pair => run.last = age,
+                _ => runs.push(Place {
+                    first: age,
+                    last: age,
+                    pair,
+                }),
+            }
+        }
+        runs
     }
 }

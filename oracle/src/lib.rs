@@ -7,10 +7,12 @@
 //!
 //! [`generate`] makes sessions from a seed, and [`compare`] runs a given program over them.
 //!
-//! [`mod@record`] says what a proper record is. [`judge`] makes tables and records, and holds what a given program says
-//! of them to [`table`] and to it.
+//! [`mod@record`] says what a proper record is, and [`calls`] answers the library's calls by the same sets, each from
+//! the record and the table that it is handed. [`judge`] makes tables, records and sequences of calls, and holds what a
+//! given program answers to [`table`] and to these.
 
 pub mod ages;
+pub mod calls;
 pub mod compare;
 pub mod generate;
 pub mod judge;

@@ -1,10 +1,11 @@
-//! `oracle`: the second watch, the comparison with it, and the judgement of tables and records.
+//! `oracle`: the second watch, the comparison with it, and the judgement of tables, records and calls.
 
 use oracle::ages::Ages;
 use oracle::compare::{compare, Plan};
 use oracle::generate::kinds::{named, Kind, KINDS};
 use oracle::judge::probe::{answer, serve};
-use oracle::judge::{judge, Part, Reached};
+use oracle::judge::reached::Reached;
+use oracle::judge::{judge, Part};
 use oracle::run::{run, Failure};
 use oracle::session::LONGEST;
 use oracle::spells::Spells;
@@ -24,9 +25,10 @@ oracle session KIND SEED NUMBER
     writes one generated session to standard output
 oracle kinds
     lists the kinds and what the sessions of each must reach
-oracle judge [--seed S] [--tables N] [--records N] [--patience SECONDS] -- PROGRAM [WORD]..
-    gives PROGRAM generated tables, and records with a table, and compares the
-    numbers and horizons that it answers with those of `oracle probe`
+oracle judge [--seed S] [--tables N] [--records N] [--sequences N] [--patience SECONDS] -- PROGRAM [WORD]..
+    gives PROGRAM generated tables, records with a table, and sequences of calls
+    with a table and the record that the call before handed back, and compares
+    what it answers with `oracle probe`
 oracle probe
     answers such cases from standard input";
 
@@ -217,31 +219,57 @@ fn probe() {
     }
 }
 
-fn judge_all(words: &[&str]) {
+/// How many numbers of each part are judged, over which program.
+struct Judgement {
+    seed: u64,
+    tables: usize,
+    records: usize,
+    sequences: usize,
+    patience: Duration,
+    program: Vec<String>,
+}
+
+fn judgement(words: &[&str]) -> Judgement {
     let (options, program) = parted(words);
-    let (mut seed, mut patience) = (1, PATIENCE);
-    let (mut tables, mut records) = (120_000, 120_000);
+    let mut judgement = Judgement {
+        seed: 1,
+        tables: 120_000,
+        records: 120_000,
+        sequences: 20_000,
+        patience: PATIENCE,
+        program,
+    };
     for (option, value) in options {
         match option {
-            "--seed" => seed = number_of(value),
-            "--tables" => tables = number_of(value) as usize,
-            "--records" => records = number_of(value) as usize,
-            "--patience" => patience = patience_of(value),
+            "--seed" => judgement.seed = number_of(value),
+            "--tables" => judgement.tables = number_of(value) as usize,
+            "--records" => judgement.records = number_of(value) as usize,
+            "--sequences" => judgement.sequences = number_of(value) as usize,
+            "--patience" => judgement.patience = patience_of(value),
             _ => not_expected(option),
         }
     }
+    judgement
+}
+
+fn judge_all(words: &[&str]) {
+    let of = judgement(words);
     let began = Instant::now();
     let asked = |batch: usize, input: &[u8]| -> Result<Vec<u8>, Failure> {
         // every third batch comes in small pieces
         let piece = if batch % 3 == 2 { 61 } else { 1 << 16 };
-        run(&program, input, piece, patience)
+        run(&of.program, input, piece, of.patience)
     };
-    let (mut alike, mut failed) = ([0, 0], 0);
-    let parts = [(Part::tables(seed), tables), (Part::records(seed), records)];
-    for (at, (part, cases)) in parts.iter().enumerate() {
-        match judge(part, *cases, &asked) {
+    let parts = [
+        (Part::tables(of.seed), of.tables),
+        (Part::records(of.seed), of.records),
+        (Part::calls(of.seed), of.sequences),
+    ];
+    let (mut alike, mut failed) = ([(0, 0); 3], 0);
+    for (at, (part, numbers)) in parts.iter().enumerate() {
+        match judge(part, *numbers, &asked) {
             Ok(reached) => {
-                alike[at] = *cases;
+                alike[at] = (*numbers, reached.cases);
                 print_reached(part, &reached);
             }
             Err(failure) => {
@@ -253,22 +281,25 @@ fn judge_all(words: &[&str]) {
             }
         }
     }
+    let [(tables, _), (records, _), (sequences, calls)] = alike;
     println!("{:.1} seconds", began.elapsed().as_secs_f64());
     println!(
-        "{} tables and {} records alike, {failed} failed",
-        alike[0], alike[1]
+        "{tables} tables, {records} records and {sequences} sequences of {calls} calls alike, {failed} failed"
     );
     if failed > 0 {
         exit(1);
     }
 }
 
-/// How many cases of each making were answered with each number, and how many edges, orders or clauses they show.
+/// How many cases of each making were answered with each number, how many edges, orders, clauses or marks they show,
+/// and how many cases show each of those that are counted.
 fn print_reached(part: &Part, reached: &Reached) {
-    let numbers: String = (0..=8).map(|number| format!("{number:7}")).collect();
+    let all = part.wanted.iter().flat_map(|(_, numbers)| *numbers);
+    let greatest = all.copied().max().unwrap_or(0);
+    let numbers: String = (0..=greatest).map(|number| format!("{number:7}")).collect();
     println!("{:15}{numbers}", part.name);
     for (making, _) in part.wanted {
-        let times: String = (0..=8)
+        let times: String = (0..=greatest)
             .map(|number| match reached.times(making, number) {
                 0 => format!("{:>7}", "-"),
                 times => format!("{times:7}"),
@@ -279,5 +310,8 @@ fn print_reached(part: &Part, reached: &Reached) {
             labels => format!("  ({labels} named)"),
         };
         println!("  {making:13}{times}{named}");
+    }
+    for (name, labels) in &part.counted {
+        println!("{:7}  {name}", reached.rarest(labels));
     }
 }

@@ -1,9 +1,11 @@
 //! A set of configurations as spells: for each state, the ages at which it is held, as spells from a first age to a
-//! last, apart from each other and in rising order. Ages are the true ones, without bound, so that nothing here knows
-//! of the horizon but the two questions that speak of it.
+//! last, in rising order and not touching each other. Ages are the true ones, without bound, so that nothing here knows
+//! of the horizon but the questions that speak of it.
 
+use crate::record::{Pair, Place};
 use crate::table::{members, States, Table};
-use crate::watch::Configurations;
+use crate::watch::{Configurations, Row};
+use std::collections::BTreeSet;
 
 /// The last age of a spell without end.
 const FOREVER: u64 = u64::MAX;
@@ -82,6 +84,17 @@ impl Configurations for Spells {
         }
     }
 
+    fn at_ages(table: &Table, rows: &[Row]) -> Spells {
+        let mut held = vec![Vec::new(); table.states];
+        for (states, ages) in rows {
+            let (&first, &last) = (ages.start(), ages.end());
+            for state in members(*states) {
+                held[state].push(Spell { first, last });
+            }
+        }
+        Spells::tidy(held)
+    }
+
     fn after_letter(&self, table: &Table, letter: u8) -> Spells {
         let mut after = Spells::newborn(table, table.standing).held;
         for line in table.on(letter) {
@@ -109,17 +122,26 @@ impl Configurations for Spells {
     }
 
     fn same(&self, other: &Spells, table: &Table) -> bool {
-        let beyond = table.horizon + 1;
-        let above = |set: &Spells, state| set.within(state, beyond, FOREVER).next().is_some();
-        (0..table.states).all(|state| {
-            above(self, state) == above(other, state)
-                && (self.within(state, 0, table.horizon)).eq(other.within(state, 0, table.horizon))
-        })
+        let low =
+            |set: &Spells, state| -> Vec<Spell> { set.within(state, 0, table.horizon).collect() };
+        self.above(table) == other.above(table)
+            && (0..table.states).all(|state| low(self, state) == low(other, state))
     }
 
-    fn stretches(sure: &Spells, possible: &Spells, table: &Table) -> usize {
-        // the pair can change only where some spell begins, or directly after one ends
-        let mut changes = vec![0];
+    fn above(&self, table: &Table) -> States {
+        let is_above = |state| {
+            self.within(state, table.horizon + 1, FOREVER)
+                .next()
+                .is_some()
+        };
+        let states = (0..table.states).filter(|&state| is_above(state));
+        states.fold(0, |set, state| set | 1 << state)
+    }
+
+    fn stretches(sure: &Spells, possible: &Spells, table: &Table) -> Vec<Place> {
+        // the pair changes where some spell begins and directly after one ends, for a state's spells do not touch; and
+        // nowhere else
+        let mut changes = BTreeSet::from([0]);
         for state in 0..table.states {
             for set in [sure, possible] {
                 for spell in set.within(state, 0, table.horizon) {
@@ -127,13 +149,18 @@ impl Configurations for Spells {
                 }
             }
         }
-        changes.sort_unstable();
-        changes.dedup();
-        changes.retain(|&age| age <= table.horizon);
-        let pairs: Vec<_> = (changes.iter())
-            .map(|&age| (sure.at(age), possible.at(age)))
-            .collect();
-        let begins = |i: usize| pairs[i].1 != 0 && (i == 0 || pairs[i - 1] != pairs[i]);
-        (0..pairs.len()).filter(|&i| begins(i)).count()
+        changes.remove(&(table.horizon + 1));
+        let lasts = changes.iter().skip(1).map(|next| next - 1);
+        (changes.iter().zip(lasts.chain([table.horizon])))
+            .map(|(&first, last)| Place {
+                first: first as u32,
+                last: last as u32,
+                pair: Pair {
+                    sure: sure.at(first),
+                    possible: possible.at(first),
+                },
+            })
+            .filter(|stretch| stretch.pair.possible != 0)
+            .collect()
     }
 }

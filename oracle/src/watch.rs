@@ -1,8 +1,13 @@
 //! The watch: a session in, its lines out, over either form of the two sets.
 
+use crate::record::Place;
 use crate::session::{first, framed, Symbol};
 use crate::table::{States, Table};
 use std::fmt;
+use std::ops::RangeInclusive;
+
+/// States, and the ages at which each of them is held.
+pub type Row = (States, RangeInclusive<u64>);
 
 /// A set of configurations of a table. All ages above the horizon meet the same conditions, and a form may take them
 /// as one.
@@ -11,14 +16,18 @@ pub trait Configurations: Clone {
     fn newborn(table: &Table, states: States) -> Self;
     /// All n states at every age.
     fn everything(table: &Table) -> Self;
+    /// What these rows hold and nothing else.
+    fn at_ages(table: &Table, rows: &[Row]) -> Self;
     fn after_letter(&self, table: &Table, letter: u8) -> Self;
     fn after_span(&self, table: &Table, seconds: u32) -> Self;
     /// It holds a configuration whose state is accepting, at any age.
     fn accepts(&self, table: &Table) -> bool;
     /// The two sets are equal, all ages above the horizon taken as one.
     fn same(&self, other: &Self, table: &Table) -> bool;
-    /// How many longest runs of consecutive ages in 0 to H have the same pair and a non-empty possible set.
-    fn stretches(sure: &Self, possible: &Self, table: &Table) -> usize;
+    /// The states held at any age above the horizon.
+    fn above(&self, table: &Table) -> States;
+    /// The longest runs of consecutive ages in 0 to H with the same pair and a non-empty possible set, rising.
+    fn stretches(sure: &Self, possible: &Self, table: &Table) -> Vec<Place>;
 }
 
 #[derive(Clone, Copy, Debug, PartialEq, Eq)]
@@ -91,9 +100,8 @@ impl<S: Configurations> Watch<S> {
                 if letter >= self.table.letters {
                     return Err(9);
                 }
-                let sure = self.sure.after_letter(&self.table, letter);
-                let possible = self.possible.after_letter(&self.table, letter);
-                if S::stretches(&sure, &possible, &self.table) > self.room {
+                let (sure, possible) = self.after_letter(letter);
+                if S::stretches(&sure, &possible, &self.table).len() > self.room {
                     return Err(11);
                 }
                 (sure, possible)
@@ -114,6 +122,12 @@ impl<S: Configurations> Watch<S> {
         Ok(())
     }
 
+    /// Both sets after a letter, whatever the room.
+    pub fn after_letter(&self, letter: u8) -> (S, S) {
+        let after = |set: &S| set.after_letter(&self.table, letter);
+        (after(&self.sure), after(&self.possible))
+    }
+
     pub fn answer(&self) -> Answer {
         let verdict = if self.sure.accepts(&self.table) {
             Verdict::Yes
@@ -125,7 +139,7 @@ impl<S: Configurations> Watch<S> {
         Answer::Stands {
             verdict,
             settled: self.sure.same(&self.possible, &self.table),
-            count: S::stretches(&self.sure, &self.possible, &self.table),
+            count: S::stretches(&self.sure, &self.possible, &self.table).len(),
         }
     }
 }

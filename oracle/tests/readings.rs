@@ -60,7 +60,7 @@ impl Mistaken {
             Mistake::LeavesTouchingApart => (0..=table.horizon)
                 .filter(|&age| possible.at(age) != 0)
                 .count(),
-            _ => Ages::stretches(sure, possible, table),
+            _ => Ages::stretches(sure, possible, table).len(),
         }
     }
 

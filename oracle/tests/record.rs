@@ -3,7 +3,7 @@
 
 mod common;
 
-use common::plain;
+use common::{only_case, plain};
 use oracle::generate::draft::{line, TableDraft, KEEPS, NONE};
 use oracle::judge::probe::parted;
 use oracle::judge::records::ONE_CLAUSE;
@@ -238,7 +238,7 @@ fn a_proper_record_holds_the_stretches_of_its_pairs() {
     let part = Part::records(5);
     let mut of_each = [0, 0];
     for number in 0..30_000 {
-        let load = part.case(number).load;
+        let load = only_case(&part, number).load;
         let (record, table) = parted(&load);
         match Table::read(table) {
             Ok(table) if table.horizon <= 300 => {
@@ -256,7 +256,7 @@ fn a_proper_record_holds_the_stretches_of_its_pairs() {
 fn each_clause_is_broken_alone() {
     let part = Part::records(2);
     let mut alone = Vec::new();
-    for case in (0..4_000).map(|number| part.case(number)) {
+    for case in (0..4_000).map(|number| only_case(&part, number)) {
         if case.making == ONE_CLAUSE {
             let (record, table) = parted(&case.load);
             match broken(&record, &Table::read(table).unwrap())[..] {
@@ -278,7 +278,7 @@ fn each_clause_is_broken_alone() {
 fn proper_records_are_of_all_sorts() {
     let part = Part::records(1);
     let mut seen: BTreeSet<String> = BTreeSet::new();
-    for case in (0..30_000).map(|number| part.case(number)) {
+    for case in (0..30_000).map(|number| only_case(&part, number)) {
         if case.making != "proper" {
             continue;
         }

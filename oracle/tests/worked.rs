@@ -3,7 +3,13 @@
 mod common;
 
 use common::{board, board_entries, printed, said};
+use oracle::ages::Ages;
+use oracle::calls::{ask, start, step};
 use oracle::generate::draft::Draft;
+use oracle::record::{Pair, Place, Record};
+use oracle::session::Symbol;
+use oracle::spells::Spells;
+use oracle::watch::{lines, Answer, Configurations};
 use std::fs;
 
 /// The session as document 01 prints it.
@@ -75,6 +81,77 @@ fn with_room_1_entry_3_is_refused_and_the_session_goes_on() {
             "11 refused 9",
         ]
     );
+}
+
+/// The lines of the session by calls alone, each handed the record before it, and these records.
+fn by_calls<S: Configurations>(room: u8, entries: &[Symbol]) -> (String, Vec<Record>) {
+    let table = board().bytes();
+    let (number, mut record) = start::<S>(room, &table);
+    assert_eq!(number, 0);
+    let (mut answers, mut records) = (vec![ask::<S>(&record, &table)], vec![record.clone()]);
+    for &entry in entries {
+        let (number, after) = step::<S>(&record, entry, &table);
+        answers.push(match number {
+            0 => ask::<S>(&after, &table),
+            _ => Answer::Refused(number),
+        });
+        records.push(after.clone());
+        record = after;
+    }
+    (lines(&answers), records)
+}
+
+#[test]
+fn its_twelve_lines_call_by_call() {
+    for by_calls in [by_calls::<Spells>, by_calls::<Ages>] {
+        assert_eq!(by_calls(4, &board_entries()).0, OUTPUT);
+    }
+}
+
+/// First and last age, sure and possible set of each stretch; then the pair above H.
+type Held = (&'static [(u32, u32, u16, u16)], u16, u16);
+
+/// The record after the start and after each entry, worked out by hand: state 0 is 1, state 1 is 2.
+const RECORDS: [Held; 12] = [
+    (&[(0, 0, 1, 1)], 0, 0),
+    (&[(0, 0, 3, 3)], 0, 0),
+    (&[(5, 5, 3, 3)], 0, 0),
+    (&[(0, 0, 1, 1), (5, 5, 2, 2)], 0, 0),
+    (&[(1, 1, 1, 1)], 2, 2),
+    (&[(0, 0, 1, 1)], 0, 0),
+    (&[(0, 5, 0, 3)], 0, 3),
+    (&[(0, 0, 1, 3), (1, 5, 0, 2)], 0, 0),
+    (&[(2, 2, 1, 3), (3, 5, 0, 2)], 0, 2),
+    (&[(0, 0, 3, 3)], 0, 0),
+    (&[(0, 0, 3, 3)], 0, 0),
+    (&[(0, 0, 3, 3)], 0, 0),
+];
+
+#[test]
+fn its_records_call_by_call() {
+    let worked = |(stretches, sure, possible): &Held| {
+        let mut record = Record::empty(4);
+        record.count = stretches.len() as u8;
+        for (place, &(first, last, sure, possible)) in record.places.iter_mut().zip(*stretches) {
+            let pair = Pair { sure, possible };
+            *place = Place { first, last, pair };
+        }
+        (record.above.sure, record.above.possible) = (*sure, *possible);
+        record
+    };
+    let worked: Vec<Record> = RECORDS.iter().map(worked).collect();
+    for by_calls in [by_calls::<Spells>, by_calls::<Ages>] {
+        assert_eq!(by_calls(4, &board_entries()).1, worked);
+    }
+}
+
+#[test]
+fn the_room_1_line_call_by_call() {
+    for by_calls in [by_calls::<Spells>, by_calls::<Ages>] {
+        let (lines, records) = by_calls(1, &board_entries()[..3]);
+        assert!(lines.ends_with("\n3 refused 11\n"), "{lines}");
+        assert_eq!(records[3], records[2]);
+    }
 }
 
 #[test]

@@ -184,15 +184,14 @@ module _ (b : List ℕ) where
         in-its-room (stepped b r (letter a)) (p .0 .1) (stepped-ok (p .0 .0) (p .0 .1) (letter a)) (p .1 .1))
 
     -- a span always finds room
-    pub span-holds : length (r .places) ≡ 64 → (s : ℕ) → spanOf b r s .number ≡ 0
-        → Holds b (r .room) (stepped b r (span s)) (spanOf b r s .next)
+    pub span-holds : (s : ℕ) → spanOf b r s .number ≡ 0 → Holds b (r .room) (stepped b r (span s)) (spanOf b r s .next)
     unfolding spanOf
-    span-holds whole s e = handed b (r .room) (stepped b r (span s)) (spanFault b r s) r e
+    span-holds s e = handed b (r .room) (stepped b r (span s)) (spanFault b r s) r e
         (λ z. let p = spanFault-iff b r s .0 z in
         in-its-room (stepped b r (span s)) (p .0 .1) (stepped-ok (p .0 .0) (p .0 .1) (span s)) (fits (p .0 .1)))
       where
         fits : ProperFor b r → needed b (stepped b r (span s)) ≤ r .room
-        fits p = le-trans (span-count T s (pairsOf b r)) (omega (arith, count-used (horizon T) (T .states) r whole p, p .fits))
+        fits p = le-trans (span-count T s (pairsOf b r)) (omega (arith, count-used (horizon T) (T .states) r p, p .fits))
 
     pub gap-holds : gapOf b r .number ≡ 0 → Holds b (r .room) (gapPairs (tableOf b)) (gapOf b r .next)
     unfolding gapOf
@@ -201,11 +200,11 @@ module _ (b : List ℕ) where
         in-its-room (gapPairs T) (p .1) (gap-ok T) (le-trans (gap-count T (horizon T)) (p .1 .room-low)))
 
     -- the count that is told is the one that the record holds
-    pub count-held : length (r .places) ≡ 64 → recordFault b r ≡ 0 → countOf b r ≡ told (r .count)
+    pub count-held : recordFault b r ≡ 0 → countOf b r ≡ told (r .count)
     unfolding countOf
-    count-held whole e =
+    count-held e =
         ap (λ (n : ℕ). reply n (needed b (pairsOf b r))) e
-        ∙ ap told (count-used (horizon T) (T .states) r whole (recordFault-iff b r .0 e .1))
+        ∙ ap told (count-used (horizon T) (T .states) r (recordFault-iff b r .0 e .1))
 
     -- "A gap after a gap gives the same record as the first."
     pub gap-gap : gapOf b r .number ≡ 0 → gapOf b (gapOf b r .next) ≡ gapOf b r

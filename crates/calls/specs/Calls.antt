@@ -15,7 +15,14 @@ use Rattle.record.specs.Pairs.{Pairs, startPairs, gapPairs, stepPairs}
 use Rattle.record.specs.Verdicts.{Verdict, verdictAt, settledAt}
 use Rattle.record.specs.Stretches.{stretchesOf}
 use Rattle.record.specs.Records.{blankRecord, pairsAt, recordOf, properb}
+use Rattle.verdicts.specs.Said.{verdictCase}
 use Rattle.calls.specs.declared.Answer.{Answer}
+use Rattle.calls.specs.declared.VerdictReply.{VerdictReply}
+use Rattle.calls.specs.declared.VerdictReply.the-variants as VerdictCases
+use Rattle.calls.specs.declared.SettledReply.{SettledReply}
+use Rattle.calls.specs.declared.SettledReply.the-variants as SettledCases
+use Rattle.calls.specs.declared.CountReply.{CountReply}
+use Rattle.calls.specs.declared.CountReply.the-variants as CountCases
 
 -- ---- the table and the record that were handed in
 
@@ -45,24 +52,36 @@ recordFault b r = tableFault b then 8 if not (properb (horizon (tableOf b)) (tab
 abbrev pub stepped : List ℕ → Record → Symbol → Pairs
 stepped b r x = stepPairs (tableOf b) x (pairsOf b r)
 
--- 1 to 8, then 9: "letter m or above", and 11: "the count after the letter would exceed the room"
-unfoldable pub letterFault : List ℕ → Record → ℕ → ℕ
-letterFault b r a =
-    recordFault b r
-    then 9 if leb (tableOf b .letters) a
-    then 11 if ltb (r .room) (needed b (stepped b r (letter a)))
+-- a letter's own checks, 9: "letter m or above", and 11: "the count after the letter would exceed the room"
+abbrev pub letterChecks : List ℕ → Record → ℕ → ℕ
+letterChecks b r a = 9 if leb (tableOf b .letters) a then 11 if ltb (r .room) (needed b (stepped b r (letter a)))
 
--- 1 to 8, then 10: "span 0 or above 2,147,483,647"
+-- a span's own check, 10: "span 0 or above 2,147,483,647"
+abbrev pub spanChecks : ℕ → ℕ
+spanChecks s = 10 if (eqb s 0 || ltb 2147483647 s)
+
+-- 1 to 8, then 9 and 11
+unfoldable pub letterFault : List ℕ → Record → ℕ → ℕ
+letterFault b r a = recordFault b r then letterChecks b r a
+
+-- 1 to 8, then 10
 unfoldable pub spanFault : List ℕ → Record → ℕ → ℕ
-spanFault b r s = recordFault b r then 10 if (eqb s 0 || ltb 2147483647 s)
+spanFault b r s = recordFault b r then spanChecks s
 
 -- ---- what a call answers
 
--- "An accepted call carries the number 0", and with it the new record; "Every refused call returns its number with the record
--- exactly as handed in"
+-- "An accepted call carries the number 0", and with it the new record
+abbrev pub accepted : Record → Answer
+accepted new = record { number = 0; next = new }
+
+-- "Every refused call returns its number with the record exactly as handed in"
+abbrev pub refusal : ℕ → Record → Answer
+refusal n old = record { number = n; next = old }
+
+-- by the number of the first check that failed, 0 where none did
 abbrev pub answer : ℕ → Record → Record → Answer
-answer zero old new = record { number = 0; next = new }
-answer (suc n) old new = record { number = suc n; next = old }
+answer zero old new = accepted new
+answer (suc n) old new = refusal (suc n) old
 
 -- a start in a room: the initial states at age 0; "a refused start returns a record of all zeros"
 unfoldable pub startOf : List ℕ → ℕ → Answer
@@ -79,6 +98,19 @@ spanOf b r s = answer (spanFault b r s) r (holding b (r .room) (stepped b r (spa
 -- a gap: nothing sure, everything possible, whatever the record held; "A start runs checks 1 to 8 and a gap likewise."
 unfoldable pub gapOf : List ℕ → Record → Answer
 gapOf b r = answer (recordFault b r) r (holding b (r .room) (gapPairs (tableOf b)))
+
+-- ---- a call as its checks and its step: what is left of it where the checks 1 to 8 passed (`letter-call`, `span-call`)
+
+unfoldable pub letterStep : List ℕ → Record → ℕ → Answer
+letterStep b r a = answer (letterChecks b r a) r (holding b (r .room) (stepped b r (letter a)))
+
+unfoldable pub spanStep : List ℕ → Record → ℕ → Answer
+spanStep b r s = answer (spanChecks s) r (holding b (r .room) (stepped b r (span s)))
+
+-- the number of a check that failed with the record as it was handed in; where none did, the step
+abbrev pub checked : ℕ → Record → Answer → Answer
+checked zero old step = step
+checked (suc n) old step = refusal (suc n) old
 
 -- ---- what a question answers
 
@@ -107,3 +139,17 @@ settledOf b r = reply (recordFault b r) (settledAt (tableOf b) (pairsOf b r))
 -- the count is that of the longest runs of the record's pairs; that its field has the same number is a law (`count-held`)
 unfoldable pub countOf : List ℕ → Record → Reply ℕ
 countOf b r = reply (recordFault b r) (needed b (pairsOf b r))
+
+-- ---- the cases of the questions' answers: "a definition gives this paper's number and values for each of the enum's cases"
+
+abbrev pub verdictReply : VerdictReply → Reply Verdict
+verdictReply (VerdictCases.Refused n) = refused n
+verdictReply (VerdictCases.Told v) = told (verdictCase v)
+
+abbrev pub settledReply : SettledReply → Reply Bool
+settledReply (SettledCases.Refused n) = refused n
+settledReply (SettledCases.Told b) = told b
+
+abbrev pub countReply : CountReply → Reply ℕ
+countReply (CountCases.Refused n) = refused n
+countReply (CountCases.Told n) = told n

@@ -13,7 +13,7 @@ use lib.Bits.{bitOr, bitAnd}
 use lib.Dec.{T as Is, eqb, leb, ltb}
 use Rattle.base.specs.Masks.{Has, hasb, pick, union, most}
 use Rattle.base.proofs.Tests.{eqb-iff, ne-iff, leb-iff, ltb-iff, beq-iff, not-iff, and-iff, or-iff, is-true, is-false}
-use Rattle.base.proofs.Masks.{has-or, has-and, has-bit, has-full, has-pick, has-cond, has-union, not-has-zero, ext-has, nonempty, hasb-iff, le-most, most-attained}
+use Rattle.base.proofs.Masks.{has-or, has-and, has-bit, has-full, has-pick, has-cond, has-union, not-has-zero, empty-mask, ext-has, nonempty, hasb-iff, le-most, most-attained}
 use Rattle.table.specs.declared.Line.{Line}
 use Rattle.meaning.specs.Tables.{Table, noBound, Meets, resets, lineTop, horizon, acceptingAt}
 use Rattle.meaning.specs.Runs.{Symbol, letter, span, Word, empty, _▷_, Follows, Step}
@@ -154,6 +154,35 @@ has-image T r a t m q = (to, from)
           has-pick (takes l r a t m) (2 ^ (l .to)) q .1
               (takes-iff l r a t m .1 (((h .kind, h .bears), h .meets), h .held), has-bit (l .to) q .1 (sym (h .enters))),
         )
+
+-- from no state it leads nowhere
+pub image-none : (T : Table) (r : Bool) (a t : ℕ) → image T r a t 0 ≡ 0
+image-none T r a t = empty-mask (image T r a t 0) (λ q h. not-has-zero _ (has-image T r a t 0 q .0 h .held))
+
+-- two ages at which the same lines of the letter hold lead to the same states
+pub image-alike : (T : Table) (r : Bool) (a t u m : ℕ)
+    → ((i : ℕ) → i < T .lines → T .line i .letter ≡ a → meetsb (T .line i) t ≡ meetsb (T .line i) u)
+    → image T r a t m ≡ image T r a u m
+image-alike T r a t u m alike = ext-has (image T r a t m) (image T r a u m) (λ q. (half t u alike q, half u t back q))
+  where
+    Alike : ℕ → ℕ → Type 0
+    Alike t u = (i : ℕ) → i < T .lines → T .line i .letter ≡ a → meetsb (T .line i) t ≡ meetsb (T .line i) u
+
+    back : Alike u t
+    back i l b = sym (alike i l b)
+
+    half : (t u : ℕ) → Alike t u → (q : ℕ) → Has (image T r a t m) q → Has (image T r a u m) q
+    half t u e q h = let d = has-image T r a t m q .0 h in
+        let l : Line = T .line (d .index) in
+        has-image T r a u m q .1 record {
+          index = d .index;
+          listed = d .listed;
+          kind = d .kind;
+          bears = d .bears;
+          meets = meets-iff l u .0 (subst Is (e (d .index) (d .listed) (d .bears)) (meets-iff l t .1 (d .meets)));
+          held = d .held;
+          enters = d .enters;
+        }
 
 -- ---- a letter
 
@@ -434,7 +463,7 @@ settled-means H f g A B sa sb = (to, from)
     from : Same H A B → (k : ℕ) → k ≤ suc H → f k ≡ g k
     from s k l = ext-has (f k) (g k) (λ q. Iff·trans (sa q k l) (Iff·trans (same-clipped H A B .0 s q k) (Iff·symm (sb q k l))))
 
--- ---- what a span leaves at an age up to H
+-- ---- what a span leaves at an age up to H, and above H
 
 pub span-moved : (H s : ℕ) (f : ℕ → ℕ) (k : ℕ) → k ≤ H → s ≤ k → spanAt H s f k ≡ f (k - s)
 unfolding spanAt
@@ -446,3 +475,10 @@ span-gone H s f k l m = rw (is-true (leb k H) (leb-iff k H .1 l), is-false (leb 
   where
     not-yet : ¬ Is (leb s k)
     not-yet t = let z : s ≤ k = leb-iff s k .0 t in omega arith
+
+pub span-passed : (H s : ℕ) (f : ℕ → ℕ) → spanAt H s f (suc H) ≡ union (ages H) (λ u. pick (ltb H (u + s)) (f u))
+unfolding spanAt passedAt
+span-passed H s f = rw (is-false (leb (suc H) H) above)
+  where
+    above : ¬ Is (leb (suc H) H)
+    above t = let z : suc H ≤ H = leb-iff (suc H) H .0 t in omega arith

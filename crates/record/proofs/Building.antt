@@ -1,6 +1,6 @@
 -- What a push means: a record that holds the stretches L within its room holds, after it, `push L ..` (`push-held`); more than
--- the room takes are told by its count (`held-over`); once all ages 0 to H are pushed, it is the record that holds their pairs
--- (`held-record`). Assumes nothing.
+-- the room takes are told by its count; once all ages 0 to H are pushed, it is the record that holds their pairs (`built-fits`),
+-- or tells that they do not fit (`built-over`). Assumes nothing.
 use Prim.Native.Nat.{ℕ, suc, _-_, _≤_, _<_}
 use mathlib.Core.Path.{_≡_, refl, sym, ap, _∙_, subst}
 use mathlib.Core.Logic.{_↔_}
@@ -17,9 +17,9 @@ use Rattle.record.specs.declared.Pair.{Pair}
 use Rattle.record.specs.declared.Stretch.{Stretch}
 use Rattle.record.specs.declared.Record.{Record}
 use Rattle.record.specs.Pairs.{Pairs}
-use Rattle.record.specs.Stretches.{stretch, touches, putIf, put, pushIf, push, newest}
+use Rattle.record.specs.Stretches.{stretch, touches, putIf, put, pushIf, push, newest, stretchesOf}
 use Rattle.record.specs.Records.{blank, recordOf}
-use Rattle.record.specs.Building.{emptyRecord, overfull, heldIn, appended, joined, pushed}
+use Rattle.record.specs.Building.{emptyRecord, overfull, heldIn, builtOf, appended, joined, pushed}
 use Rattle.record.proofs.Stretches.{touches-iff, push-length}
 
 reverse-front : (x : Stretch) (L M : List Stretch) → reverse (x ∷ L) ++ M ≡ reverse L ++ x ∷ M
@@ -132,10 +132,10 @@ push-held room above L a b p small = go (decLe (length L) room)
     go (no n) =
         ap (λ (r : Record). pushed r a b p) (held-large room above L (omega arith))
         ∙ push-large room above a b p
-        ∙ sym (held-large room above (push L a b p) (omega (arith, push-length L a b p)))
+        ∙ sym (held-large room above (push L a b p) (omega (arith, push-length L a b p .0)))
 
 -- more stretches than the room takes are told by the count
-pub held-over : (room : ℕ) (above : Pair) (L : List Stretch) → room ≤ 64
+held-over : (room : ℕ) (above : Pair) (L : List Stretch) → room ≤ 64
     → (room < heldIn room above L .count) ↔ (room < length L)
 held-over room above L small = go (decLe (length L) room)
   where
@@ -143,8 +143,12 @@ held-over room above L small = go (decLe (length L) room)
     go (yes l) = rw (held-fits room above L l) ((λ h. h), λ h. h)
     go (no n) = rw (held-large room above L (omega arith)) ((λ h. omega arith), λ h. omega arith)
 
--- all ages 0 to H pushed, within the room: the record that holds f
-pub held-record : (room H : ℕ) (f : Pairs) → length (newest (suc H) f) ≤ room
-    → heldIn room (f (suc H)) (newest (suc H) f) ≡ recordOf room H f
-unfolding recordOf
-held-record room H f l = cc (held-fits room (f (suc H)) (newest (suc H) f) l, length-reverse (newest (suc H) f))
+-- all ages 0 to H pushed: within the room it is the record that holds f, and the count tells where it is not
+module _ (room H : ℕ) (f : Pairs) where
+  pub built-fits : length (stretchesOf H f) ≤ room → builtOf room H f ≡ recordOf room H f
+  unfolding recordOf
+  built-fits l = let e = length-reverse (newest (suc H) f) in
+      cc (held-fits room (f (suc H)) (newest (suc H) f) (omega (arith, e, l)), e)
+
+  pub built-over : room ≤ 64 → (room < builtOf room H f .count) ↔ (room < length (stretchesOf H f))
+  built-over small = rw (length-reverse (newest (suc H) f)) (held-over room (f (suc H)) (newest (suc H) f) small)

@@ -1,6 +1,6 @@
--- How many stretches are needed: a start and a gap need at most one (`start-count`, `gap-count`), and a span never needs more
--- than there were (`span-count`), since it moves the stretches of the lowest ages up as they are. So only a letter can want
--- for room. Assumes nothing.
+-- How many stretches are needed: a start and a gap need at most one (`start-count`, `gap-count`), as they are one push
+-- (`start-newest`, `gap-newest`), and a span never needs more than there were (`span-count`), since it moves the stretches of
+-- the lowest ages up as they are. So only a letter can want for room. Assumes nothing.
 use Prim.Native.Nat.{ℕ, zero, suc, _+_, _-_, _≤_, _<_}
 use mathlib.Core.Path.{_≡_, refl, sym, ap, ap₂, _∙_}
 use mathlib.Core.List.{List, [], _∷_, map}
@@ -20,35 +20,27 @@ use Rattle.record.specs.declared.Pair.{Pair}
 use Rattle.record.specs.declared.Stretch.{Stretch}
 use Rattle.record.specs.Pairs.{Pairs, sures, possibles, startPairs, gapPairs, stepPairs}
 use Rattle.record.specs.Stretches.{touches, putIf, put, pushIf, push, newest, stretchesOf}
-use Rattle.record.proofs.Stretches.{pair-ext, touches-iff, newest-run, newest-skip, newest-length}
+use Rattle.record.proofs.Stretches.{pair-ext, touches-iff, newest-run, newest-skip, push-length, newest-length}
 
 -- ---- a start and a gap
 
-push-one : (a b : ℕ) (p : Pair) → length (push [] a b p) ≤ 1
-unfolding push
-push-one a b p = go (eqb (p .possible) 0)
-  where
-    go : (t : Bool) → length (pushIf t [] a b p) ≤ 1
-    go true = omega arith
-    go false = omega arith
-
-pub start-count : (T : Table) (H : ℕ) → length (stretchesOf H (startPairs T)) ≤ 1
+pub start-newest : (T : Table) (H : ℕ) → newest (suc H) (startPairs T) ≡ push [] 0 0 (startPairs T 0)
 unfolding startPairs newest
-start-count T H = rw (length-reverse (newest (suc H) (startPairs T)), at-zero) (push-one 0 0 (startPairs T 0))
+start-newest T H = newest-skip (startPairs T) 1 (suc H) (omega arith) later
   where
     later : (k : ℕ) → 1 ≤ k → k < suc H → startPairs T k .possible ≡ 0
     later (suc k) l m = ap (λ (t : Bool). pick t (T .initial)) (eqb·suc-zero k)
     later zero l m = absurd (let z : ⊥ = omega arith in z)
 
-    at-zero : newest (suc H) (startPairs T) ≡ newest 1 (startPairs T)
-    at-zero = newest-skip (startPairs T) 1 (suc H) (omega arith) later
+pub start-count : (T : Table) (H : ℕ) → length (stretchesOf H (startPairs T)) ≤ 1
+start-count T H = rw (length-reverse (newest (suc H) (startPairs T)), start-newest T H) (push-length [] 0 0 (startPairs T 0) .1)
+
+pub gap-newest : (T : Table) (H : ℕ) → newest (suc H) (gapPairs T) ≡ push [] 0 H (gapPairs T 0)
+unfolding gapPairs newest
+gap-newest T H = newest-run (gapPairs T) 0 H (gapPairs T 0) (omega arith) (λ k l m. refl)
 
 pub gap-count : (T : Table) (H : ℕ) → length (stretchesOf H (gapPairs T)) ≤ 1
-unfolding gapPairs newest
-gap-count T H = rw (length-reverse (newest (suc H) (gapPairs T)), at-once) (push-one 0 H (gapPairs T 0))
-  where
-    at-once : newest (suc H) (gapPairs T) ≡ push [] 0 H (gapPairs T 0)
-    at-once = newest-run (gapPairs T) 0 H (gapPairs T 0) (omega arith) (λ k l m. refl)
+gap-count T H = rw (length-reverse (newest (suc H) (gapPairs T)), gap-newest T H) (push-length [] 0 H (gapPairs T 0) .1)
 
 -- ---- a span
 

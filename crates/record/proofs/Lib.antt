@@ -1,4 +1,5 @@
 pub mod Stretches
+pub mod Together
 pub mod Longest
 pub mod Records
 pub mod Properness

@@ -11,9 +11,9 @@ use native.Mathlib.Nat.{le-refl}
 use native.Mathlib.Decide.{ℕ-discrete, decLe}
 use native.Mathlib.Omega.{arith}
 use lib.Dec.{T as Is, leb}
-use lib.ListN.{length, getD, take, drop, replicate, length-drop, length-replicate, getD-replicate, take-append-drop, length-append}
+use lib.ListN.{length, getD, take, drop, replicate, length-drop, length-replicate, getD-replicate, take-append-drop, length-append, length-reverse}
 use lib.Pow.{pow-pos}
-use lib.Seq.{take-suc, take-length, ext-getD, getD-drop, length-take-le, take-at, getD-append-add}
+use lib.Seq.{take-suc, take-length, ext-getD, getD-drop, take-at, getD-append-add}
 use Rattle.base.specs.Masks.{Has}
 use Rattle.base.proofs.Tests.{is-true, is-false, leb-iff}
 use Rattle.base.proofs.Masks.{not-has-zero, empty-mask}
@@ -33,22 +33,12 @@ reverse-take l i h = ap reverse (take-suc l i blank h) ∙ reverse-append (take 
 abbrev pub used : Record → List Stretch
 used r = reverse (take (r .count) (r .places))
 
-pairIn-said : (l : List Stretch) (n k : ℕ) → n ≤ length l → pairIn l n k ≡ said (reverse (take n l)) k
-unfolding pairIn said
-pairIn-said l zero k h = refl
-pairIn-said l (suc n) k h = rw (reverse-take l n h)
-    (ap (cond (inside (getD l n blank) k) (getD l n blank .pair)) (pairIn-said l n k (omega arith)))
-
 module _ (H : ℕ) (r : Record) where
-  pub pairsAt-low : r .count ≤ 64 → r .count ≤ length (r .places) → (k : ℕ) → k ≤ H → pairsAt H r k ≡ said (used r) k
+  pub pairsAt-low : r .count ≤ 64 → (k : ℕ) → k ≤ H → pairsAt H r k ≡ pairIn (r .places) (r .count) k
   unfolding pairsAt
-  pairsAt-low few c k l =
+  pairsAt-low few k l =
       ap (λ (t : Bool). cond t (pairIn (r .places) (min (r .count) 64) k) (r .above)) (is-true (leb k H) (leb-iff k H .1 l))
-      ∙ ap (λ (n : ℕ). pairIn (r .places) n k) counted
-      ∙ pairIn-said (r .places) (r .count) k c
-    where
-      counted : min (r .count) 64 ≡ r .count
-      counted = omega arith
+      ∙ ap (λ (n : ℕ). pairIn (r .places) n k) (let counted : min (r .count) 64 ≡ r .count = omega arith in counted)
 
   pub pairsAt-above : pairsAt H r (suc H) ≡ r .above
   unfolding pairsAt
@@ -89,24 +79,41 @@ proper-pairs H n r p k = go (leb k H)
 good-ok : (H n : ℕ) (x : Stretch) → Good (PairOk n) (suc H) x → StretchOk H n x
 good-ok H n x g = record { pair = g .pair; within = omega (arith, g .below); order = g .order; some = g .some }
 
--- ---- a proper record is the one that holds its own pairs. Every record has 64 places; that is `whole`.
+-- ---- the stretches of a proper record's pairs are its places in use
 
-module _ (H n : ℕ) (r : Record) (whole : length (r .places) ≡ 64) (ok : Proper H n r) where
+-- the first i places, the newest first
+unfoldable placed : Record → ℕ → List Stretch
+placed r zero = []
+placed r (suc i) = place r i ∷ placed r i
+
+length-placed : (r : Record) (i : ℕ) → length (placed r i) ≡ i
+unfolding placed
+length-placed r zero = refl
+length-placed r (suc i) = ap suc (length-placed r i)
+
+pairIn-placed : (r : Record) (i k : ℕ) → pairIn (r .places) i k ≡ said (placed r i) k
+unfolding pairIn said placed
+pairIn-placed r zero k = refl
+pairIn-placed r (suc i) k = ap (cond (inside (place r i) k) (place r i .pair)) (pairIn-placed r i k)
+
+used-placed : (r : Record) (i : ℕ) → i ≤ length (r .places) → reverse (take i (r .places)) ≡ placed r i
+unfolding placed
+used-placed r zero l = refl
+used-placed r (suc i) l = reverse-take (r .places) i l ∙ ap (λ (L : List Stretch). place r i ∷ L) (used-placed r i (omega arith))
+
+module _ (H n : ℕ) (r : Record) (ok : Proper H n r) where
   few : r .count ≤ 64
   few = omega (arith, ok .fits, ok .room-high)
 
-  inside-places : r .count ≤ length (r .places)
-  inside-places = omega (arith, few)
-
-  used-proper : (i : ℕ) → i ≤ r .count → (b : ℕ) → ((j : ℕ) → suc j ≡ i → place r j .last < b)
-      → ProperList (PairOk n) b (reverse (take i (r .places)))
-  used-proper zero l b h = tt
-  used-proper (suc i) l b h =
-      rw (reverse-take (r .places) i (omega (arith, inside-places))) (
-        record { pair = held .pair; below = h i refl; order = held .order; some = held .some },
-        apart i (omega arith),
-        used-proper i (omega arith) (place r i .first) rising,
-      )
+  placed-proper : (i : ℕ) → i ≤ r .count → (b : ℕ) → ((j : ℕ) → suc j ≡ i → place r j .last < b)
+      → ProperList (PairOk n) b (placed r i)
+  unfolding placed
+  placed-proper zero l b h = tt
+  placed-proper (suc i) l b h = (
+    record { pair = held .pair; below = h i refl; order = held .order; some = held .some },
+    apart i (omega arith),
+    placed-proper i (omega arith) (place r i .first) rising,
+  )
     where
       held : StretchOk H n (place r i)
       held = ok .each i (omega arith)
@@ -114,34 +121,41 @@ module _ (H n : ℕ) (r : Record) (whole : length (r .places) ≡ 64) (ok : Prop
       rising : (j : ℕ) → suc j ≡ i → place r j .last < place r i .first
       rising j e = subst (λ (m : ℕ). place r j .last < place r m .first) e (ok .rising j (omega arith))
 
-      apart : (i : ℕ) → i < r .count → Apart (place r i) (reverse (take i (r .places)))
+      apart : (i : ℕ) → i < r .count → Apart (place r i) (placed r i)
       apart zero l = tt
-      apart (suc i) l = rw (reverse-take (r .places) i (omega (arith, inside-places))) (ok .differ i l)
+      apart (suc i) l = ok .differ i l
 
-  newest-used : newest (suc H) (pairsAt H r) ≡ used r
-  newest-used =
-      newest-cong (suc H) (pairsAt H r) (said (used r)) (λ k l. pairsAt-low H r few inside-places k (omega arith))
-      ∙ canon (PairOk n) (used r) (suc H) (used-proper (r .count) (le-refl (r .count)) (suc H) low)
+  newest-placed : newest (suc H) (pairsAt H r) ≡ placed r (r .count)
+  newest-placed =
+      newest-cong (suc H) (pairsAt H r) (said (placed r (r .count)))
+      (λ k l. pairsAt-low H r few k (omega arith) ∙ pairIn-placed r (r .count) k)
+      ∙ canon (PairOk n) (placed r (r .count)) (suc H) (placed-proper (r .count) (le-refl (r .count)) (suc H) low)
     where
       low : (j : ℕ) → suc j ≡ r .count → place r j .last < suc H
       low j e = omega (arith, ok .each j (omega arith) .within)
+
+  -- the count is the number of the stretches of its pairs
+  pub count-used : length (stretchesOf H (pairsAt H r)) ≡ r .count
+  count-used = length-reverse (newest (suc H) (pairsAt H r)) ∙ ap length newest-placed ∙ length-placed r (r .count)
+
+  -- "the count is that of the stretches as defined"
+  pub count-longest : r .count ≡ firstAges (suc H) (pairsAt H r)
+  count-longest = sym count-used ∙ stretches-count H (pairsAt H r)
+
+-- ---- a proper record is the one that holds its own pairs. Every record has 64 places; that is `whole`.
+
+module _ (H n : ℕ) (r : Record) (whole : length (r .places) ≡ 64) (ok : Proper H n r) where
+  newest-used : newest (suc H) (pairsAt H r) ≡ used r
+  newest-used = newest-placed H n r ok ∙ sym (used-placed r (r .count) (omega (arith, few H n r ok)))
 
   -- the stretches of its pairs are the ones it holds
   pub stretches-used : stretchesOf H (pairsAt H r) ≡ take (r .count) (r .places)
   stretches-used = ap reverse newest-used ∙ reverse-reverse (take (r .count) (r .places))
 
-  -- and its count is their number
-  pub count-used : length (stretchesOf H (pairsAt H r)) ≡ r .count
-  count-used = ap length stretches-used ∙ length-take-le (r .count) (r .places) inside-places
-
   -- what it holds are exactly the longest runs of its pairs
   pub held-longest : (x : Stretch) → List·Memᴰ x (take (r .count) (r .places)) ↔ LongestRun H (pairsAt H r) x
   held-longest x = subst (λ (L : List Stretch). List·Memᴰ x L ↔ LongestRun H (pairsAt H r) x) stretches-used
       (stretches-longest H (pairsAt H r) x)
-
-  -- "the count is that of the stretches as defined"
-  pub count-longest : r .count ≡ firstAges (suc H) (pairsAt H r)
-  count-longest = sym count-used ∙ stretches-count H (pairsAt H r)
 
   unused-blank : drop (r .count) (r .places) ≡ replicate (64 - r .count) blank
   unused-blank = ext-getD blank (drop (r .count) (r .places)) (replicate (64 - r .count) blank)
@@ -153,11 +167,11 @@ module _ (H n : ℕ) (r : Record) (whole : length (r .places) ≡ 64) (ok : Prop
 
   pub canon-record : recordOf (r .room) H (pairsAt H r) ≡ r
   unfolding recordOf
-  canon-record = λ i. record { room = r .room; count = count-used i; places = stored i; above = pairsAt-above H r i }
+  canon-record = λ i. record { room = r .room; count = count-used H n r ok i; places = stored i; above = pairsAt-above H r i }
     where
       stored : stretchesOf H (pairsAt H r) ++ replicate (64 - length (stretchesOf H (pairsAt H r))) blank ≡ r .places
       stored =
-          ap₂ (λ (L : List Stretch) (c : ℕ). L ++ replicate (64 - c) blank) stretches-used count-used
+          ap₂ (λ (L : List Stretch) (c : ℕ). L ++ replicate (64 - c) blank) stretches-used (count-used H n r ok)
           ∙ ap (λ (L : List Stretch). take (r .count) (r .places) ++ L) (sym unused-blank)
           ∙ take-append-drop (r .count) (r .places)
 
@@ -266,8 +280,9 @@ module _ (room H n : ℕ) (f : Pairs) (ok : (k : ℕ) → k ≤ suc H → PairOk
     where
       go : Dec (k ≤ H) → pairsAt H r k ≡ f k
       go (yes b) =
-          pairsAt-low H r few-of inside-of k b
-          ∙ ap (λ (L : List Stretch). said L k) used-of
+          pairsAt-low H r few-of k b
+          ∙ pairIn-placed r (r .count) k
+          ∙ ap (λ (L : List Stretch). said L k) (sym (used-placed r (r .count) inside-of) ∙ used-of)
           ∙ said-newest (PairOk n) (pairOk-empty n) (suc H) f (λ j b. ok j (omega arith)) k (omega arith)
       go (no b) = let e : k ≡ suc H = omega arith in
           ap (pairsAt H r) e ∙ pairsAt-above H r ∙ ap f (sym e)

@@ -1,7 +1,7 @@
 -- The list of stretches that `newest` makes. What a loop over pieces of ages uses: `newest-run` (a piece at once),
--- `newest-skip` (ages where nothing is possible), `newest-cong`, `newest-length`. Then the list and what it says of each age
--- (`said`): a proper list is that of what it says (`canon`), and the list of f is proper and says f (`newest-proper`,
--- `said-newest`). `P` is what is known of every pair. Assumes nothing.
+-- `newest-skip` (ages where nothing is possible), `newest-cong`, `push-length`, `newest-length`. Then the list and what it says
+-- of each age (`said`): a proper list is that of what it says (`canon`), and the list of f is proper and says f
+-- (`newest-proper`, `said-newest`). `P` is what is known of every pair. Assumes nothing.
 use Prim.Native.Nat.{ℕ, zero, suc, _≤_, _<_}
 use mathlib.Core.Path.{_≡_, refl, sym, ap, ap₂, _∙_, subst}
 use mathlib.Core.Logic.{_↔_, _≢_, Iff·trans}
@@ -97,28 +97,32 @@ newest-cong (suc n) f g h = ap₂ (λ (L : List Stretch) (p : Pair). push L n n 
     (newest-cong n f g (λ k l. h k (omega arith)))
     (h n (omega arith))
 
--- ---- more ages never need fewer stretches
+-- ---- a push adds at most one stretch, and more ages never need fewer
 
-pub push-length : (L : List Stretch) (a b : ℕ) (p : Pair) → length L ≤ length (push L a b p)
+pub push-length : (L : List Stretch) (a b : ℕ) (p : Pair)
+    → (length L ≤ length (push L a b p)) × (length (push L a b p) ≤ suc (length L))
 unfolding push
 push-length L a b p = go (eqb (p .possible) 0)
   where
-    put-length : (L : List Stretch) → length L ≤ length (put L a b p)
-    put-length [] = omega arith
+    OneMore : List Stretch → List Stretch → Type 0
+    OneMore L M = (length L ≤ length M) × (length M ≤ suc (length L))
+
+    put-length : (L : List Stretch) → OneMore L (put L a b p)
+    put-length [] = (omega arith, omega arith)
     put-length (x ∷ xs) = more (touches x a p)
       where
-        more : (t : Bool) → length (x ∷ xs) ≤ length (putIf t x xs a b p)
-        more true = omega arith
-        more false = omega arith
+        more : (t : Bool) → OneMore (x ∷ xs) (putIf t x xs a b p)
+        more true = (omega arith, omega arith)
+        more false = (omega arith, omega arith)
 
-    go : (t : Bool) → length L ≤ length (pushIf t L a b p)
-    go true = le-refl (length L)
+    go : (t : Bool) → OneMore L (pushIf t L a b p)
+    go true = (omega arith, omega arith)
     go false = put-length L
 
 pub newest-length : (f : Pairs) (m n : ℕ) → m ≤ n → length (newest m f) ≤ length (newest n f)
 unfolding newest
 newest-length f m n l = le-ind (λ (k : ℕ). length (newest m f) ≤ length (newest k f)) (le-refl (length (newest m f)))
-    (λ k c ih. le-trans ih (push-length (newest k f) k k (f k))) n l
+    (λ k c ih. le-trans ih (push-length (newest k f) k k (f k) .0)) n l
 
 -- ---- what a list of stretches says of an age: the pair of the first stretch that has it in it
 

@@ -1,7 +1,7 @@
 -- How a record is built, in rising order of ages: what becomes of its places. What that means for the stretches is a law
 -- (`push-held`): a record that holds them holds, after a push, the stretches with those ages more; one that would need more of
 -- them than its room says so by its count. Assumes nothing: these are definitions.
-use Prim.Native.Nat.{ℕ, _+_, _-_}
+use Prim.Native.Nat.{ℕ, suc, _+_, _-_}
 use mathlib.Core.List.{List, _++_, reverse}
 use mathlib.Core.Bool.{_||_, cond}
 use lib.Dec.{eqb, leb, ltb}
@@ -9,7 +9,8 @@ use lib.ListN.{length, replicate, set}
 use Rattle.record.specs.declared.Pair.{Pair}
 use Rattle.record.specs.declared.Stretch.{Stretch}
 use Rattle.record.specs.declared.Record.{Record}
-use Rattle.record.specs.Stretches.{stretch, touches}
+use Rattle.record.specs.Pairs.{Pairs}
+use Rattle.record.specs.Stretches.{stretch, touches, newest}
 use Rattle.record.specs.Records.{blank, place}
 
 -- a record without stretches
@@ -26,6 +27,11 @@ heldIn room above L =
     cond (leb (length L) room)
     (record { room = room; count = length L; places = reverse L ++ replicate (64 - length L) blank; above = above })
     (overfull room above)
+
+-- all ages 0 to H of the pairs f, pushed: the record of that room that holds them, or one that says by its count that the room
+-- does not take them (`built-fits`, `built-over`)
+abbrev pub builtOf : ℕ → ℕ → Pairs → Record
+builtOf room H f = heldIn room (f (suc H)) (newest (suc H) f)
 
 -- a stretch more, in the place behind the last, within the room and the 64 places
 unfoldable pub appended : Record → Stretch → Record

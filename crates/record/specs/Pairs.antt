@@ -1,6 +1,7 @@
 -- The two sets that the watch carries, age by age: a pair, sure and possible, for each age 0 to H, and one for all ages
 -- above H, kept at the age H + 1 (document 01, Configurations and steps; The record). Assumes nothing: these are definitions.
-use Prim.Native.Nat.{ℕ}
+use Prim.Native.Nat.{ℕ, zero, suc}
+use lib.Bits.{bitOr}
 use Rattle.meaning.specs.Tables.{Table}
 use Rattle.meaning.specs.Runs.{Symbol, Word, empty, _▷_}
 use Rattle.meaning.specs.Ages.{stepAt, initialAt, nothingAt, everythingAt}
@@ -13,6 +14,15 @@ Pairs = ℕ → Pair
 -- the pair of two empty sets
 abbrev pub noPair : Pair
 noPair = record { sure = 0; possible = 0 }
+
+-- two pairs as one: the sure sets together, and the possible ones
+abbrev pub both : Pair → Pair → Pair
+both p q = record { sure = bitOr (p .sure) (q .sure); possible = bitOr (p .possible) (q .possible) }
+
+-- f 0 to f (n - 1) as one
+unfoldable pub together : ℕ → (ℕ → Pair) → Pair
+together zero f = noPair
+together (suc n) f = both (together n f) (f n)
 
 -- the sure set alone, by age, and the possible one
 abbrev pub sures : Pairs → ℕ → ℕ

@@ -12,7 +12,7 @@ use Rattle.base.specs.Masks.{Part, pastStates, all}
 use Rattle.record.specs.declared.Pair.{Pair}
 use Rattle.record.specs.declared.Stretch.{Stretch}
 use Rattle.record.specs.declared.Record.{Record}
-use Rattle.record.specs.Pairs.{Pairs, noPair}
+use Rattle.record.specs.Pairs.{Pairs, noPair, together}
 use Rattle.record.specs.Stretches.{samePair, stretchesOf}
 
 -- the place of all zeros
@@ -43,6 +43,10 @@ pairIn l (suc n) k = cond (inside (getD l n blank) k) (getD l n blank .pair) (pa
 -- `count` say so; a count above 64, which no proper record has, means all of them
 unfoldable pub pairsAt : ℕ → Record → Pairs
 pairsAt H r k = cond (leb k H) (pairIn (r .places) (min (r .count) 64) k) (r .above)
+
+-- what f says of the ages of the stretch x, as one
+unfoldable pub overAges : Stretch → Pairs → Pair
+overAges x f = together (suc (x .last)) (λ k. cond (leb (x .first) k) (f k) noPair)
 
 -- ---- which record holds the pairs f: "its room .., the count of stretches, each stretch's first and last age and its pair, and
 -- one pair for all ages above H. Its 64 places are held with it; those beyond the count are all zero."

@@ -5,7 +5,7 @@ ghost use Prim.Native.Nat.{_≤_, _<_};
 ghost use mathlib.Core.Path.{_≡_};
 ghost use lib.ListN.{replicate};
 ghost use Rattle.base.specs.Masks.{all};
-ghost use Rattle.record.specs.Pairs.{noPair};
+ghost use Rattle.record.specs.Pairs.{noPair, both};
 ghost use Rattle.record.specs.Stretches.{samePair, touches};
 ghost use Rattle.record.specs.Records.{blank, place, inside, pairIn, pairsAt, pairOkb, stretchOkb, followsb, blankb};
 ghost use Rattle.record.specs.Records.{placeOkb, properb};
@@ -33,12 +33,22 @@ pub struct Record {
 }
 
 // Two empty sets.
-fn no_pair() -> Pair
+pub fn no_pair() -> Pair
     ensures { λ x. ⌜ x ≡ noPair ⌝ }
 {
     Pair {
         sure: 0,
         possible: 0,
+    }
+}
+
+// Two pairs as one: the sure sets together, and the possible ones.
+pub fn both(p: Pair, q: Pair) -> Pair
+    ensures { λ x. ⌜ x ≡ both p q ⌝ }
+{
+    Pair {
+        sure: p.sure | q.sure,
+        possible: p.possible | q.possible,
     }
 }
 
@@ -52,7 +62,7 @@ fn same_pair(p: Pair, q: Pair) -> bool
 }
 
 // Place i, the first being place 0.
-fn place_at(r: Record, i: u8) -> Stretch
+pub fn place_at(r: Record, i: u8) -> Stretch
     requires { ⌜ i < 64 ⌝ }
     ensures { λ x. ⌜ x ≡ place r i ⌝ }
 {

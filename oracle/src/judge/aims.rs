@@ -1,6 +1,8 @@
 //! Records that break one clause and no other, at each place where it can be broken.
 
 use crate::generate::random::Random;
+use crate::judge::probe::Kind;
+use crate::judge::reached::Label;
 use crate::judge::records::{held, Held, ONE_CLAUSE};
 use crate::judge::Case;
 use crate::record::{broken, Clause, Pair, Record, CLAUSES, PLACES};
@@ -78,7 +80,7 @@ fn label((clause, spot): (Clause, Spot)) -> String {
 }
 
 /// The labels that must be reached.
-pub fn labels() -> Vec<(&'static str, String)> {
+pub fn labels() -> Vec<Label> {
     let of = |aim| (ONE_CLAUSE, label(aim));
     aims().into_iter().map(of).collect()
 }
@@ -86,11 +88,21 @@ pub fn labels() -> Vec<(&'static str, String)> {
 /// A record that breaks a clause at a place, and nothing else.
 pub fn aimed(random: &mut Random) -> Case {
     let aim = random.pick(&aims());
+    aimed_at(random, aim)
+}
+
+/// One such record for each clause and place.
+pub fn each(random: &mut Random) -> Vec<Case> {
+    let aims = aims().into_iter();
+    aims.map(|aim| aimed_at(random, aim)).collect()
+}
+
+fn aimed_at(random: &mut Random, aim: (Clause, Spot)) -> Case {
     loop {
         let mut held = held(random);
         let hit = spoil(random, &mut held, aim).is_some();
         if hit && broken(&held.record, &held.table) == [aim.0] {
-            return Case::stated(ONE_CLAUSE, label(aim), &[8], held.load());
+            return Case::plain(Kind::Record, ONE_CLAUSE, held.load()).stated(label(aim), &[8]);
         }
     }
 }

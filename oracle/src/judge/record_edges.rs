@@ -4,6 +4,7 @@
 use crate::generate::draft::{line, TableDraft, KEEPS, NONE};
 use crate::generate::faults::spoil_table;
 use crate::generate::random::Random;
+use crate::judge::probe::Kind;
 use crate::judge::{Case, EDGES};
 use crate::record::{Pair, Place, Record, PLACES};
 use crate::table::GREATEST;
@@ -11,7 +12,8 @@ use crate::table::GREATEST;
 /// Below, n is 3 and the horizon is what is given.
 const N: u8 = 3;
 
-fn table(n: u8, horizon: u32) -> TableDraft {
+/// One line, which keeps state 0 at ages 0 to H.
+pub fn table(n: u8, horizon: u32) -> TableDraft {
     TableDraft {
         version: 1,
         length: None,
@@ -24,7 +26,7 @@ fn table(n: u8, horizon: u32) -> TableDraft {
     }
 }
 
-fn pair(sure: u16, possible: u16) -> Pair {
+pub fn pair(sure: u16, possible: u16) -> Pair {
     Pair { sure, possible }
 }
 
@@ -48,7 +50,7 @@ fn apart(count: u8) -> (Record, u32) {
 
 fn row(label: impl Into<String>, number: u8, record: &Record, table: &TableDraft) -> Case {
     let load = [record.bytes(), table.bytes()].concat();
-    Case::stated(EDGES, label, &[number], load)
+    Case::plain(Kind::Record, EDGES, load).stated(label, &[number])
 }
 
 /// An edge, the number and what is done to a stretch.
@@ -321,23 +323,32 @@ fn orders(random: &mut Random, rows: &mut Vec<Case>) {
     overlapping.places[2].last += 2;
     for number in 1..=8 {
         for record in [&proper, &overlapping, &Record::empty(0)] {
-            let mut table = table(N, horizon);
-            if ![1, 4, 8].contains(&number) {
-                spoil_table(random, &mut table, number);
-            }
-            let mut bytes = table.bytes();
-            match number {
-                1 => bytes.truncate(random.from(0, 11) as usize),
-                4 => bytes.resize(random.pick(&[12, 23, 25, 36, 24 + 65_536]), 0),
-                _ => {}
-            }
+            let table = faulty(random, table(N, horizon), number);
             let (label, answer) = match number {
                 8 if *record == proper => ("a table in order".to_string(), 0),
                 8 => ("a table in order".to_string(), 8),
                 _ => (format!("{number} before 8"), number),
             };
-            let load = [record.bytes(), bytes].concat();
-            rows.push(Case::stated("orders", label, &[answer], load));
+            let load = [record.bytes(), table].concat();
+            rows.push(Case::plain(Kind::Record, "orders", load).stated(label, &[answer]));
         }
     }
+}
+
+/// The bytes of the table, which has lines and less than 16 states, with a fault of this number; 8: with none.
+pub fn faulty(random: &mut Random, mut table: TableDraft, number: u8) -> Vec<u8> {
+    if ![1, 4, 8].contains(&number) {
+        spoil_table(random, &mut table, number);
+    }
+    let mut bytes = table.bytes();
+    let whole = bytes.len();
+    match number {
+        1 => bytes.truncate(random.from(0, 11) as usize),
+        4 => bytes.resize(
+            random.pick(&[12, whole - 1, whole + 1, whole + 12, whole + 65_536]),
+            0,
+        ),
+        _ => {}
+    }
+    bytes
 }

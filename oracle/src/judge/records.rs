@@ -4,6 +4,7 @@ use crate::generate::draft::TableDraft;
 use crate::generate::make::{random_table, Size};
 use crate::generate::random::Random;
 use crate::judge::aims::{aimed, spoiled_twice};
+use crate::judge::probe::Kind;
 use crate::judge::{tables, Case, EDGES};
 use crate::record::{Pair, Place, Record, PLACES, SIZE};
 use crate::table::{Table, GREATEST};
@@ -42,25 +43,32 @@ impl Held {
 pub fn make(random: &mut Random) -> Case {
     let held = held(random);
     let mut load = held.load();
-    match random.from(0, 15) {
-        0..=3 => Case::plain("proper", load),
-        4..=7 => aimed(random),
-        8 => Case::plain("two clauses", spoiled_twice(random, held).load()),
+    let making = match random.from(0, 15) {
+        0..=3 => "proper",
+        4..=7 => return aimed(random),
+        8 => {
+            load = spoiled_twice(random, held).load();
+            "two clauses"
+        }
         9..=11 => {
             change_byte(random, &mut load);
-            Case::plain("one byte", load)
+            "one byte"
         }
         12 | 13 => {
             tables::change_two(random, &mut load, change_byte);
-            Case::plain("two bytes", load)
+            "two bytes"
         }
-        14 => Case::plain("wild", wild(random, held).load()),
+        14 => {
+            load = wild(random, held).load();
+            "wild"
+        }
         _ => {
             load.truncate(SIZE);
             load.extend(tables::make(random).load);
-            Case::plain("other table", load)
+            "other table"
         }
-    }
+    };
+    Case::plain(Kind::Record, making, load)
 }
 
 /// A valid table with its horizon, and a proper record.
@@ -74,7 +82,7 @@ pub fn held(random: &mut Random) -> Held {
     }
 }
 
-fn table(random: &mut Random) -> TableDraft {
+pub fn table(random: &mut Random) -> TableDraft {
     let top = match random.from(0, 7) {
         0 => 0,
         1 => random.from(1, 8),
@@ -98,12 +106,18 @@ fn table(random: &mut Random) -> TableDraft {
     table
 }
 
-fn proper_record(random: &mut Random, table: &Table) -> Record {
+pub fn proper_record(random: &mut Random, table: &Table) -> Record {
     let most = (table.horizon + 1).min(PLACES as u64);
     let any = random.from(0, most);
     let count = random.pick(&[0, 1, most, most, any, any, any, any]);
     let any = random.from(count.max(1), 64);
-    let mut record = Record::empty(random.pick(&[count.max(1), 64, any]) as u8);
+    let room = random.pick(&[count.max(1), 64, any]);
+    filled(random, table, room as u8, count)
+}
+
+/// A proper record in this room, with so many stretches.
+pub fn filled(random: &mut Random, table: &Table, room: u8, count: u64) -> Record {
+    let mut record = Record::empty(room);
     record.count = count as u8;
     let firsts = firsts(random, table.horizon, count);
     for (at, &first) in firsts.iter().enumerate() {

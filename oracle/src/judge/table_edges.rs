@@ -4,7 +4,7 @@
 use crate::generate::draft::{line, LineDraft, TableDraft, KEEPS, NONE, RESETS};
 use crate::generate::faults::{spoil_line_6, spoil_line_7, spoil_table};
 use crate::generate::random::Random;
-use crate::judge::probe::LONGEST;
+use crate::judge::probe::{Kind, LONGEST};
 use crate::judge::{Case, EDGES};
 use crate::table::GREATEST;
 
@@ -98,6 +98,10 @@ fn ages(line: &mut LineDraft, least: u32, greatest: u32) {
     (line.least, line.greatest) = (least, greatest);
 }
 
+fn row(making: &'static str, label: impl Into<String>, answer: &[u8], table: Vec<u8>) -> Case {
+    Case::plain(Kind::Table, making, table).stated(label, answer)
+}
+
 /// A valid table that stays one whatever n and m are: all is at state 0 and letter 0.
 fn base(random: &mut Random, lines: u64) -> TableDraft {
     let lines = (0..lines).map(|_| {
@@ -131,7 +135,7 @@ pub fn rows(random: &mut Random) -> Vec<Case> {
         for (edge, number, change) in HEADS {
             let mut table = base(random, lines);
             change(&mut table);
-            rows.push(Case::stated(EDGES, edge, &[number], table.bytes()));
+            rows.push(row(EDGES, edge, &[number], table.bytes()));
         }
         for (place, at) in places(lines as usize) {
             for (edge, number, change) in LINES {
@@ -139,7 +143,7 @@ pub fn rows(random: &mut Random) -> Vec<Case> {
                 let (n, m) = (table.states, table.letters);
                 change(&mut table.lines[at], n, m);
                 let label = format!("{edge}, {place} line");
-                rows.push(Case::stated(EDGES, label, &[number], table.bytes()));
+                rows.push(row(EDGES, label, &[number], table.bytes()));
             }
         }
     }
@@ -172,7 +176,7 @@ fn lengths(valid: &[u8], rows: &mut Vec<Case>) {
         let mut bytes = valid.to_vec();
         bytes[1..3].copy_from_slice(&(stated as u16).to_be_bytes());
         bytes.resize(slice, 0);
-        rows.push(Case::stated(EDGES, label, &[number], bytes));
+        rows.push(row(EDGES, label, &[number], bytes));
     };
     let in_order = "the stated length is 12 + 12e";
     add(in_order, whole, whole, 0);
@@ -208,7 +212,7 @@ fn lengths(valid: &[u8], rows: &mut Vec<Case>) {
         };
         let mut bytes = valid.to_vec();
         bytes[11] = e;
-        rows.push(Case::stated(EDGES, "e counts the lines", &[number], bytes));
+        rows.push(row(EDGES, "e counts the lines", &[number], bytes));
     }
 }
 
@@ -237,12 +241,7 @@ fn orders(random: &mut Random, rows: &mut Vec<Case>) {
             if a == 1 {
                 bytes.truncate(11);
             }
-            rows.push(Case::stated(
-                "orders",
-                format!("{a} before {b}"),
-                &[a],
-                bytes,
-            ));
+            rows.push(row("orders", format!("{a} before {b}"), &[a], bytes));
         }
     }
     for lines in [2, 3, 64] {
@@ -257,18 +256,13 @@ fn orders(random: &mut Random, rows: &mut Vec<Case>) {
                 }
             }
             let label = format!("a line with {before}, then one with {after}");
-            rows.push(Case::stated("orders", label, &[before], table.bytes()));
+            rows.push(row("orders", label, &[before], table.bytes()));
         }
         let at = random.from(0, lines - 1) as usize;
         let mut table = base(random, lines);
         spoil_line_6(random, &mut table, at);
         spoil_line_7(random, &mut table, at);
-        rows.push(Case::stated(
-            "orders",
-            "6 and 7 in a line",
-            &[6],
-            table.bytes(),
-        ));
+        rows.push(row("orders", "6 and 7 in a line", &[6], table.bytes()));
     }
 }
 
@@ -279,8 +273,8 @@ fn horizons(rows: &mut Vec<Case>) {
         table.lines = (ages.iter())
             .map(|&(least, greatest)| line(0, 0, 0, KEEPS, least, greatest))
             .collect();
-        let stated = [&[0][..], &horizon.to_be_bytes()].concat();
-        rows.push(Case::stated("horizons", label, &stated, table.bytes()));
+        let answer = [&[0][..], &horizon.to_be_bytes()].concat();
+        rows.push(row("horizons", label, &answer, table.bytes()));
     };
     add("no lines", 0, &[]);
     add("no age", 0, &[(0, NONE)]);

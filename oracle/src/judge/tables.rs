@@ -3,6 +3,7 @@
 use crate::generate::draft::{line, TableDraft, KEEPS, NONE};
 use crate::generate::make::{random_table, Size};
 use crate::generate::random::Random;
+use crate::judge::probe::Kind;
 use crate::judge::{Case, EDGES};
 use crate::table::GREATEST;
 
@@ -51,7 +52,7 @@ pub fn make(random: &mut Random) -> Case {
             "wild"
         }
     };
-    Case::plain(making, bytes)
+    Case::plain(Kind::Table, making, bytes)
 }
 
 /// A valid table of any size.

@@ -1,8 +1,13 @@
-//! What several tests share: the worked session's table, what both forms answer, and the program run as a command.
+//! What several tests share: the worked session's table, what both forms answer, the judgement of a function, and the
+//! program run as a command.
 #![allow(dead_code)]
 
 use oracle::ages::Ages;
 use oracle::generate::draft::{line, Draft, TableDraft, KEEPS, NONE, RESETS};
+use oracle::judge::probe::{serve, Kind};
+use oracle::judge::reached::Reached;
+use oracle::judge::{judge, Case, Part};
+use oracle::run::Failure;
 use oracle::session::Symbol;
 use oracle::spells::Spells;
 use oracle::watch::{answers, lines};
@@ -30,6 +35,27 @@ pub fn refuses(words: &[&str]) {
     assert!(output.stdout.is_empty(), "{words:?}");
     let error = String::from_utf8(output.stderr).unwrap();
     assert!(error.starts_with("oracle: "), "{words:?}: {error}");
+}
+
+/// Judges a program that answers this.
+pub fn judged(
+    part: &Part,
+    numbers: usize,
+    answer: impl Fn(Kind, &[u8]) -> Vec<u8> + Sync,
+) -> Result<Reached, Failure> {
+    judge(part, numbers, &|_, input| {
+        let mut answers = Vec::new();
+        serve(input, &mut answers, &answer).map_err(|error| error.to_string())?;
+        Ok(answers)
+    })
+}
+
+/// What a number of a part stands for where that is a single case.
+pub fn only_case(part: &Part, number: usize) -> Case {
+    match &part.sequence(number)[..] {
+        [case] => case.clone(),
+        cases => panic!("{} cases", cases.len()),
+    }
 }
 
 /// The table of the worked session: 0 refreshed, 1 look; state 0 waiting, state 1 fresh.

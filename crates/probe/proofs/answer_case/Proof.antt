@@ -50,32 +50,17 @@ same-length c = search needs
 returns-3 : tie.Need-returns-3
 returns-3 c = search needs
 
-array-read-kind : tie.Need-array-read-kind
-array-read-kind c = search needs
+array-read-answer-kind : tie.Need-array-read-answer-kind
+array-read-answer-kind c = search needs
 
-answer-table-requires : tie.Need-answer-table-requires
-answer-table-requires c κs = search needs
+answer-kind-requires : tie.Need-answer-kind-requires
+answer-kind-requires c κs = search needs
 
 same-length-2 : tie.Need-same-length-2
 same-length-2 c = search needs
 
 returns-4 : tie.Need-returns-4
 returns-4 c = search needs
-
-answer-record-requires : tie.Need-answer-record-requires
-answer-record-requires c κs = search needs
-
-same-length-3 : tie.Need-same-length-3
-same-length-3 c = search needs
-
-returns-5 : tie.Need-returns-5
-returns-5 c = search needs
-
-same-length-4 : tie.Need-same-length-4
-same-length-4 c = search needs
-
-returns-6 : tie.Need-returns-6
-returns-6 c = search needs
 
 pub answer-case-spec : {M : Type 1} → statement M
 answer-case-spec =
@@ -96,12 +81,7 @@ answer-case-spec =
     read-full-requires-2
     same-length
     returns-3
-    array-read-kind
-    answer-table-requires
+    array-read-answer-kind
+    answer-kind-requires
     same-length-2
-    returns-4
-    answer-record-requires
-    same-length-3
-    returns-5
-    same-length-4
-    returns-6)
+    returns-4)

@@ -1,4 +1,4 @@
--- `probe::record_from`: every byte that is read is there, and every place that is written; the places left fall. Assumes nothing.
+-- `probe::record_from`: every byte that is read is there, and so is every place written; the places left fall. Assumes nothing.
 use Prim.Native.Nat.{_-_, _≤_}
 use borrow.Author.Needs.{needs}
 use Rattle.probe.proofs.record_from.Statement.{statement}

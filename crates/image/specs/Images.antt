@@ -1,0 +1,48 @@
+-- Where a letter leads from the pair of an age, line by line, and how far from an age on the same lines of the letter hold.
+-- Assumes nothing: these are definitions.
+use Prim.Native.Nat.{ℕ, zero, suc, _-_, _^_, min}
+use mathlib.Core.Bool.{Bool, _&&_, cond, Bool·beq}
+use lib.Dec.{eqb, leb, ltb}
+use Rattle.base.specs.Masks.{hasb, pick}
+use Rattle.table.specs.declared.Line.{Line}
+use Rattle.meaning.specs.Tables.{Table, resets}
+use Rattle.meaning.specs.Ages.{meetsb, takes, image}
+use Rattle.record.specs.declared.Pair.{Pair}
+
+-- where the letter a leads from the pair p at age t, by the lines that reset the clock (r is true) or keep it (r is false):
+-- "Letters and spans step both", each set by itself
+abbrev pub imagePair : Table → Bool → ℕ → ℕ → Pair → Pair
+imagePair T r a t p = record { sure = image T r a t (p .sure); possible = image T r a t (p .possible) }
+
+-- the line is of that kind, bears the letter a, and holds at age t
+abbrev pub isOpen : Line → Bool → ℕ → ℕ → Bool
+isOpen l r a t = Bool·beq (resets l) r && eqb (l .letter) a && meetsb l t
+
+-- where the line leads from the states m, whatever it asks
+abbrev pub ledBy : Line → ℕ → ℕ
+ledBy l m = pick (hasb m (l .from)) (2 ^ (l .to))
+
+-- what the line adds to `imagePair`
+abbrev pub linePair : Line → Bool → ℕ → ℕ → Pair → Pair
+linePair l r a t p =
+    record {
+      sure = pick (takes l r a t (p .sure)) (2 ^ (l .to));
+      possible = pick (takes l r a t (p .possible)) (2 ^ (l .to));
+    }
+
+-- the smallest of c and f 0 to f (n - 1)
+unfoldable pub least : ℕ → ℕ → (ℕ → ℕ) → ℕ
+least c zero f = c
+least c (suc n) f = min (least c n f) (f n)
+
+-- how far from the age x on the line l of the letter a holds, or does not hold, as it does at x; for as long as it does, or if
+-- it bears another letter, `last` is said
+unfoldable pub lineUntil : Line → ℕ → ℕ → ℕ → ℕ
+lineUntil l a x last =
+    cond (eqb (l .letter) a)
+    (cond (ltb x (l .least)) (l .least - 1) (cond (leb x (l .greatest)) (l .greatest) last))
+    last
+
+-- how far from the age x on, at most to `last`, the same lines of the letter a hold: a piece of ages
+unfoldable pub untilOf : Table → ℕ → ℕ → ℕ → ℕ
+untilOf T a x last = least last (T .lines) (λ i. lineUntil (T .line i) a x last)
