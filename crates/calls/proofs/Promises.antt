@@ -1,6 +1,6 @@
 -- What each call promises settles its answer: two answers that meet the promise are the same (`start-settles`,
--- `letter-settles`, `span-settles`, `gap-settles`, `verdict-settles`, `settled-settles`, `count-settles`, `fault-settles`).
--- Assumes nothing.
+-- `letter-settles`, `span-settles`, `gap-settles`, `verdict-settles`, `settled-settles`, `count-settles`, `fault-settles`; the
+-- steps: `letter-step-settles`, `span-step-settles`). Assumes nothing.
 use Prim.Native.Nat.{ℕ}
 use mathlib.Core.Path.{_≡_, sym, ap, _∙_, subst}
 use mathlib.Core.List.{List}
@@ -13,13 +13,14 @@ use Rattle.calls.specs.declared.SettledReply.{SettledReply}
 use Rattle.calls.specs.declared.SettledReply.the-variants as SettledCases
 use Rattle.calls.specs.declared.CountReply.{CountReply}
 use Rattle.calls.specs.declared.CountReply.the-variants as CountCases
-use Rattle.calls.specs.Calls.{recordFault, startOf, letterOf, spanOf, gapOf, Reply, refused, told, replyNumber, verdictOf, settledOf, countOf, verdictReply, settledReply, countReply}
+use Rattle.calls.specs.Calls.{recordFault, startOf, letterOf, spanOf, gapOf, letterStep, spanStep, Reply, refused, told, replyNumber, verdictOf, settledOf, countOf, verdictReply, settledReply, countReply}
 
 -- two results that meet the promise P are the same
 abbrev pub Settles : {A : Type 0} → (A → Type 0) → Type 0
 Settles {A} P = (x y : A) → P x → P y → x ≡ y
 
-equal-settles : {A : Type 0} (v : A) → Settles (λ (x : A). x ≡ v)
+-- so it is wherever a promise is an equation
+pub equal-settles : {A : Type 0} (v : A) → Settles (λ (x : A). x ≡ v)
 equal-settles v x y p q = p ∙ sym q
 
 -- ---- two replies that are the same have the same number, or the same value
@@ -75,6 +76,12 @@ module _ (b : List ℕ) (r : Record) where
 
   pub span-settles : (s : ℕ) → Settles (λ (x : Answer). x ≡ spanOf b r s)
   span-settles s = equal-settles (spanOf b r s)
+
+  pub letter-step-settles : (a : ℕ) → Settles (λ (x : Answer). x ≡ letterStep b r a)
+  letter-step-settles a = equal-settles (letterStep b r a)
+
+  pub span-step-settles : (s : ℕ) → Settles (λ (x : Answer). x ≡ spanStep b r s)
+  span-step-settles s = equal-settles (spanStep b r s)
 
   pub gap-settles : Settles (λ (x : Answer). x ≡ gapOf b r)
   gap-settles = equal-settles (gapOf b r)

@@ -199,6 +199,7 @@ pub fn gap(t: &[u8], r: Record) -> Answer
 
 // ---- the questions
 
+// Yes if the sure set accepts, no if the possible set does not, unsure otherwise.
 pub fn verdict(t: &[u8], r: Record) -> VerdictReply
     ensures { λ x. ⌜ verdictReply x ≡ verdictOf (now (t .entry)) r ⌝ }
 {

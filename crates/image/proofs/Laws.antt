@@ -1,6 +1,7 @@
 -- A piece of ages, from x up to `untilOf`, lies within what was asked (`until-within`), and at all its ages a letter
 -- leads from a pair to the same states (`image-piece`). What the lines add, taken together, is where the letter leads
--- (`lines-together`); from two empty sets it leads nowhere (`imagePair-none`). Assumes nothing.
+-- (`lines-together`); from two empty sets it leads nowhere (`imagePair-none`). What the checks tell: `known-horizon`,
+-- `known-few`, `known-place`. Assumes nothing.
 use Prim.Native.Nat.{ℕ, zero, suc, _+_, _-_, _*_, _^_, _/_, _%_, _≤_, _<_, min}
 use mathlib.Core.Path.{_≡_, refl, sym, ap, _∙_, subst}
 use mathlib.Core.Logic.{Iff·trans, Iff·symm}

@@ -35,14 +35,14 @@ unfoldable pub least : ℕ → ℕ → (ℕ → ℕ) → ℕ
 least c zero f = c
 least c (suc n) f = min (least c n f) (f n)
 
--- how far from the age x on the line l of the letter a holds, or does not hold, as it does at x; for as long as it does, or if
--- it bears another letter, `last` is said
+-- the last age, from x on, at which the line l holds, or does not hold, as it does at x; `last` where that has no end, or where
+-- the line bears another letter than a
 unfoldable pub lineUntil : Line → ℕ → ℕ → ℕ → ℕ
 lineUntil l a x last =
     cond (eqb (l .letter) a)
     (cond (ltb x (l .least)) (l .least - 1) (cond (leb x (l .greatest)) (l .greatest) last))
     last
 
--- how far from the age x on, at most to `last`, the same lines of the letter a hold: a piece of ages
+-- the last age, from x on and at most `last`, up to which the same lines of the letter a hold: these ages are a piece
 unfoldable pub untilOf : Table → ℕ → ℕ → ℕ → ℕ
 untilOf T a x last = least last (T .lines) (λ i. lineUntil (T .line i) a x last)

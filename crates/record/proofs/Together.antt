@@ -1,7 +1,7 @@
 -- Pairs taken together. A loop over ages or places takes one more (`together-next`), or a run of ages with one pair at once
 -- (`together-run`), and begins with ages that say nothing (`together-none`). What a proper record says of all its ages taken
 -- together is what its places say and the pair above H (`together-held`), since a place says the pair of its ages (`pairs-in`)
--- and an age of no place has none (`pairs-out`); of a place the last age may say all (`over-last`). Assumes nothing.
+-- and an age between two places has none (`pairs-between`); of a place the last age may say all (`over-last`). Assumes nothing.
 use Prim.Native.Nat.{ℕ, zero, suc, _+_, _≤_, _<_}
 use mathlib.Core.Path.{_≡_, refl, sym, ap, ap₂, _∙_, subst}
 use mathlib.Core.Logic.{_↔_, _⊎_, inl, inr, ⊎-elim}
