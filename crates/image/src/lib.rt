@@ -68,8 +68,8 @@ fn with_line(so_far: Pair, l: Line, reset: bool, letter: u8, age: u32, p: Pair) 
     requires { ⌜ l .to < 16 ⌝ }
     ensures { λ r. ⌜ r ≡ both «so_far» (linePair l reset letter age p) ⌝ }
 {
-    let is = is_open(l, reset, letter, age);
-    if !is {
+    let taken = is_open(l, reset, letter, age);
+    if !taken {
         return so_far;
     }
     let more = Pair {

@@ -25,7 +25,8 @@ use Rattle.record.specs.Records.{place, pairsAt, overAges, Proper}
 use Rattle.record.specs.Building.{emptyRecord, heldIn, pushed}
 use Rattle.record.proofs.Stretches.{pair-ext, newest-run, newest-skip}
 use Rattle.record.proofs.Records.{pairsAt-above}
-use Rattle.record.proofs.Together.{side, side-together, together-run, together-none, together-held, pairs-in, pairs-between}
+use Rattle.record.proofs.Together.{side, side-together, together-run, together-none}
+use Rattle.record.proofs.Places.{pairs-in, pairs-between, together-held}
 use Rattle.record.proofs.Building.{empty-held, push-held}
 use Rattle.image.specs.Images.{imagePair, untilOf}
 use Rattle.image.proofs.Laws.{until-within, image-piece, imagePair-none}

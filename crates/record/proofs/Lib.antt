@@ -2,6 +2,7 @@ pub mod Stretches
 pub mod Together
 pub mod Longest
 pub mod Records
+pub mod Places
 pub mod Properness
 pub mod Asked
 pub mod Building

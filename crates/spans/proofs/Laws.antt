@@ -28,7 +28,7 @@ use Rattle.record.specs.Records.{place, pairsAt, overAges, recordOf, Proper}
 use Rattle.record.specs.Building.{emptyRecord, heldIn, pushed}
 use Rattle.record.proofs.Stretches.{pair-ext, push-length, newest-run, newest-skip}
 use Rattle.record.proofs.Together.{side, side-ext, side-together, together-cong, over-last}
-use Rattle.record.proofs.Together.{pairs-in, pairs-between, together-held}
+use Rattle.record.proofs.Places.{pairs-in, pairs-between, together-held}
 use Rattle.record.proofs.Counts.{start-newest, gap-newest}
 use Rattle.record.proofs.Building.{empty-held, push-held, built-fits}
 use Rattle.spans.specs.Spans.{spanPairs, passedIn, movedIn}

@@ -17,8 +17,9 @@ use Rattle.record.specs.declared.Record.{Record}
 use Rattle.record.specs.Pairs.{Pairs, noPair, both, together}
 use Rattle.record.specs.Records.{place, pairsAt, Proper}
 use Rattle.record.specs.Verdicts.{decide, verdictAt, settledAt}
-use Rattle.record.proofs.Together.{side, side-together, together-cong, over-last, pairs-in, held-or-none, together-held}
 use Rattle.record.proofs.Records.{pairsAt-above}
+use Rattle.record.proofs.Together.{side, side-together, together-cong, over-last}
+use Rattle.record.proofs.Places.{pairs-in, held-or-none, together-held}
 use Rattle.verdicts.specs.declared.Verdict.{Verdict as Case}
 use Rattle.verdicts.specs.declared.Verdict.the-variants.{Yes, No, Unsure}
 use Rattle.verdicts.specs.Said.{verdictCase, acceptedOf, acceptedIn, equalSets, settledIn}

@@ -90,31 +90,36 @@ pub struct Part {
 impl Part {
     pub fn tables(seed: u64) -> Part {
         let rows = table_edges::rows(&mut Random::new(seed, "table edges", 0));
-        Part {
-            name: "tables",
-            at: |number, _| format!("case {number}"),
-            seed,
-            rows: rows.into_iter().map(|row| vec![row]).collect(),
-            make: |random| vec![tables::make(random)],
-            wanted: &tables::WANTED,
-            shows: |_| Vec::new(),
-            labels: Vec::new(),
-            counted: Vec::new(),
-            batch: 20_000,
-        }
+        let make = |random: &mut Random| vec![tables::make(random)];
+        Part::of_cases("tables", seed, rows, make, &tables::WANTED)
     }
 
     pub fn records(seed: u64) -> Part {
         let rows = record_edges::rows(&mut Random::new(seed, "record edges", 0));
+        let make = |random: &mut Random| vec![records::make(random)];
         Part {
-            name: "records",
+            labels: aims::labels(),
+            ..Part::of_cases("records", seed, rows, make, &records::WANTED)
+        }
+    }
+
+    /// Each number stands for one case.
+    fn of_cases(
+        name: &'static str,
+        seed: u64,
+        rows: Vec<Case>,
+        make: fn(&mut Random) -> Vec<Case>,
+        wanted: &'static [(&'static str, &'static [u8])],
+    ) -> Part {
+        Part {
+            name,
             at: |number, _| format!("case {number}"),
             seed,
             rows: rows.into_iter().map(|row| vec![row]).collect(),
-            make: |random| vec![records::make(random)],
-            wanted: &records::WANTED,
+            make,
+            wanted,
             shows: |_| Vec::new(),
-            labels: aims::labels(),
+            labels: Vec::new(),
             counted: Vec::new(),
             batch: 20_000,
         }
