@@ -1,10 +1,12 @@
-# make run   builds what is needed and runs the worked session
+# make run   builds what is needed and runs a session: the worked one, or SESSION=FILE
 # make test  proves every crate and compares; its last line is "N passed, 0 failed"
 
 .PHONY: run test clean
 
+SESSION = examples/board.hex
+
 run:
-	@scripts/run examples/board.hex
+	@scripts/run '$(SESSION)'
 
 test:
 	@scripts/test

@@ -1,28 +1,27 @@
-//! Runs a given `watch` over generated sessions and compares what it prints, byte for byte, with this program's lines.
+//! Holds a given `watch` to this program's lines: what it prints for generated sessions is compared byte for byte.
 
 use crate::generate::goals::{Goal, Seen};
 use crate::generate::kinds::{Kind, Session};
-use crate::run::{hex, on_all_processors, run, Failure};
+use crate::run::{hex, on_all_processors, Failure};
 use crate::spells::Spells;
 use crate::watch::{answers, lines, Answer};
 use std::sync::atomic::{AtomicUsize, Ordering};
-use std::time::Duration;
 
-/// What is compared: so many sessions of a kind, made from the seed, over a program with its words.
-pub struct Plan<'a> {
+/// What is compared: so many sessions of a kind, made from the seed.
+pub struct Plan {
     pub kind: &'static Kind,
     pub sessions: usize,
     pub seed: u64,
-    pub program: &'a [String],
-    /// A program that has not ended a session after this time hangs.
-    pub patience: Duration,
 }
+
+/// What the watch prints for a session, given by its number and its bytes.
+pub type Asked<'a> = &'a (dyn Fn(usize, &[u8]) -> Result<Vec<u8>, Failure> + Sync);
 
 /// The lines compared, or why the comparison fails.
 pub type Outcome = Result<usize, Failure>;
 
 /// Compares all sessions of a plan, on all processors, and looks whether the kind's goals were reached.
-pub fn compare(plan: &Plan) -> Outcome {
+pub fn compare(plan: &Plan, asked: Asked) -> Outcome {
     if plan.sessions < plan.kind.least {
         let few = format!(
             "{}: {} sessions cannot reach the kind's goals, it takes {}",
@@ -37,7 +36,7 @@ pub fn compare(plan: &Plan) -> Outcome {
         let session = plan.kind.session(plan.seed, number);
         let expected = answers::<Spells>(&session.bytes);
         note_goals(&goals, &reached, &Seen::new(&session.bytes, &expected));
-        compare_one(plan, &session, &expected, number)?;
+        compare_one(plan, asked, &session, &expected, number)?;
         compared.fetch_add(expected.len(), Ordering::SeqCst);
         Ok(())
     })?;
@@ -63,6 +62,7 @@ fn note_goals(goals: &[Goal], reached: &[AtomicUsize], seen: &Seen) {
 
 fn compare_one(
     plan: &Plan,
+    asked: Asked,
     session: &Session,
     expected: &[Answer],
     number: usize,
@@ -76,18 +76,13 @@ fn compare_one(
     );
     if !session.answered_as_stated(expected) {
         let otherwise = format!(
-            "the second program does not refuse as stated, {:?}\n{expected_lines}",
-            session.refusals
+            "the second program does not answer as stated, {:?} {:?}\n{expected_lines}",
+            session.refusals, session.lines
         );
         return Err(Failure::from(otherwise).at(&place, &session.bytes));
     }
-    // every fourth session comes one byte at a time
-    let piece = match number % 4 {
-        3 => 1,
-        _ => session.bytes.len().max(1),
-    };
-    let printed = run(plan.program, &session.bytes, piece, plan.patience)
-        .map_err(|failure| failure.at(&place, &session.bytes))?;
+    let printed =
+        asked(number, &session.bytes).map_err(|failure| failure.at(&place, &session.bytes))?;
     if printed == expected_lines.as_bytes() {
         return Ok(());
     }

@@ -1,7 +1,5 @@
 //! The calls: the same by both forms, whatever stands for the ages above H, and as document 01 says what a record is.
 
-mod common;
-
 use oracle::ages::Ages;
 use oracle::calls::{ask, needed, rows, start, step};
 use oracle::judge::marks::pieces;
@@ -208,11 +206,11 @@ fn the_widest_letters_are_as_wide_as_they_say() {
 #[test]
 fn pieces_of_ages() {
     let of = |bounds: &[(u32, u32)]| {
-        use oracle::generate::draft::{line, TableDraft, KEEPS};
+        use oracle::generate::draft::{line, plain, TableDraft, KEEPS};
         let lines = bounds.iter().map(|&(l, u)| line(0, 0, 0, KEEPS, l, u));
         let draft = TableDraft {
             lines: lines.collect(),
-            ..common::plain()
+            ..plain()
         };
         pieces(&Table::read(&draft.bytes()).unwrap())
     };

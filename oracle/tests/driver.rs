@@ -53,7 +53,7 @@ fn a_program_that_prints_nothing_fails() {
     assert_eq!(status, Some(1));
     assert!(text.contains("differs after 0 lines"), "{text}");
     assert!(
-        text.ends_with("0 sessions alike, 11 kinds failed\n"),
+        text.ends_with("0 sessions alike, 12 kinds failed\n"),
         "{text}"
     );
 }

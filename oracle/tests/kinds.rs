@@ -15,7 +15,9 @@ fn a_session_is_given_by_kind_seed_and_number() {
     for kind in &KINDS {
         let session = |seed, number| kind.session(seed, number).bytes;
         assert_eq!(session(1, 2), session(1, 2), "{}", kind.name);
-        assert_ne!(session(1, 2), session(2, 2), "{}", kind.name);
+        // the edges come of no seed
+        let seeded = kind.name != "edges";
+        assert_eq!(session(1, 2) != session(2, 2), seeded, "{}", kind.name);
         assert_ne!(session(1, 2), session(1, 3), "{}", kind.name);
     }
 }

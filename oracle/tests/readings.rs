@@ -3,9 +3,9 @@
 
 mod common;
 
-use common::{board, plain, printed};
+use common::printed;
 use oracle::ages::Ages;
-use oracle::generate::draft::{line, Draft, TableDraft, KEEPS, NONE, RESETS};
+use oracle::generate::draft::{board, line, plain, Draft, TableDraft, KEEPS, NONE, RESETS};
 use oracle::generate::kinds::KINDS;
 use oracle::session::Symbol::{self, Gap, Letter, Span};
 use oracle::session::{first, framed};

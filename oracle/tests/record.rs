@@ -3,8 +3,8 @@
 
 mod common;
 
-use common::{only_case, plain};
-use oracle::generate::draft::{line, TableDraft, KEEPS, NONE};
+use common::only_case;
+use oracle::generate::draft::{line, plain, TableDraft, KEEPS, NONE};
 use oracle::judge::probe::parted;
 use oracle::judge::records::ONE_CLAUSE;
 use oracle::judge::Part;

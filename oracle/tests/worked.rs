@@ -2,10 +2,10 @@
 
 mod common;
 
-use common::{board, board_entries, printed, said};
+use common::{printed, said};
 use oracle::ages::Ages;
 use oracle::calls::{ask, start, step};
-use oracle::generate::draft::Draft;
+use oracle::generate::draft::{board, board_entries, Draft};
 use oracle::record::{Pair, Place, Record};
 use oracle::session::Symbol;
 use oracle::spells::Spells;
@@ -166,6 +166,23 @@ fn the_example_is_this_session() {
 fn the_pump_and_its_lines() {
     let pump = bytes(&shown("examples/pump.hex"));
     assert_eq!(printed(&pump), shown("examples/pump.lines"));
+}
+
+/// The lines beside each example, which show every verdict.
+#[test]
+fn the_examples_and_their_lines() {
+    let folder = format!("{}/../examples", env!("CARGO_MANIFEST_DIR"));
+    let names = fs::read_dir(folder).unwrap();
+    let names = names.map(|entry| entry.unwrap().file_name().into_string().unwrap());
+    let sessions: Vec<String> = names.filter(|name| name.ends_with(".hex")).collect();
+    assert!(!sessions.is_empty());
+    for name in sessions {
+        let lines = shown(&format!("examples/{}", name.replace(".hex", ".lines")));
+        assert_eq!(printed(&bytes(&shown(&format!("examples/{name}")))), lines);
+        for verdict in [" yes ", " no ", " unsure "] {
+            assert!(lines.contains(verdict), "{name}:{verdict}");
+        }
+    }
 }
 
 /// With room 2 its eighth entry, which needs three stretches, is refused, and the session goes on.

@@ -17,14 +17,15 @@ use Rattle.meaning.specs.Tables.{Table, tableOf, horizon}
 use Rattle.meaning.specs.Runs.{letter, span}
 use Rattle.record.specs.declared.Record.{Record}
 use Rattle.record.specs.Pairs.{startPairs, gapPairs, stepPairs}
-use Rattle.record.specs.Records.{blankRecord, pairsAt, recordOf}
+use Rattle.record.specs.Records.{blankRecord, pairsAt, recordOf, Proper}
+use Rattle.record.specs.Verdicts.{verdictAt, settledAt}
 use Rattle.record.specs.Building.{builtOf}
 use Rattle.record.proofs.Building.{built-fits, built-over}
 use Rattle.image.specs.Known.{Known}
 use Rattle.spans.specs.Spans.{spanPairs}
 use Rattle.spans.proofs.Laws.{span-stepped}
 use Rattle.calls.specs.declared.Answer.{Answer}
-use Rattle.calls.specs.Calls.{holding, needed, stepped, startFault, recordFault, letterFault, spanFault, answer, startOf, letterOf, spanOf, gapOf, accepted, refusal, letterStep, spanStep, checked, refused, told, reply}
+use Rattle.calls.specs.Calls.{holding, needed, stepped, startFault, recordFault, letterFault, spanFault, answer, startOf, letterOf, spanOf, gapOf, accepted, refusal, letterStep, spanStep, gapStep, checked, refused, told, reply, pairsOf, verdictOf, settledOf, countOf}
 use Rattle.calls.proofs.Laws.{ProperFor, recordFault-iff}
 
 -- ---- each call is its checks and its step
@@ -51,9 +52,8 @@ module _ (b : List ℕ) where
   unfolding spanOf spanFault spanStep
   span-call r s = checked-then (recordFault b r) _ r _
 
-  pub gap-call : (r : Record)
-      → gapOf b r ≡ checked (recordFault b r) r (accepted (holding b (r .room) (gapPairs (tableOf b))))
-  unfolding gapOf
+  pub gap-call : (r : Record) → gapOf b r ≡ checked (recordFault b r) r (gapStep b r)
+  unfolding gapOf gapStep
   gap-call r = checked-answer (recordFault b r) r _
 
 -- as code asks: the number f of the checks, and what is answered then
@@ -103,9 +103,25 @@ known b H r f e z h = let passed = recordFault-iff b r .0 (sym e ∙ z) in
 pub proper-known : (b : List ℕ) (r : Record) (f : ℕ) → f ≡ recordFault b r → f ≡ 0 → ProperFor b r
 proper-known b r f e z = recordFault-iff b r .0 (sym e ∙ z) .1
 
-pub gap-held : (b : List ℕ) (room H : ℕ) (next : Record) → H ≡ horizon (tableOf b)
-    → next ≡ recordOf room H (gapPairs (tableOf b)) → accepted next ≡ accepted (holding b room (gapPairs (tableOf b)))
-gap-held b room H next h e = ap accepted (e ∙ ap (λ (h : ℕ). recordOf room h (gapPairs (tableOf b))) h)
+-- where they passed, a call is its step
+module _ (b : List ℕ) (H : ℕ) (r : Record) (k : Known b H r) where
+  passed : recordFault b r ≡ 0
+  passed = recordFault-iff b r .1 (k .sound, subst (λ (h : ℕ). Proper h (tableOf b .states) r) (k .reach) (k .proper))
+
+  pub letter-known : (a : ℕ) → letterOf b r a ≡ letterStep b r a
+  letter-known a = letter-call b r a ∙ ap (λ (n : ℕ). checked n r (letterStep b r a)) passed
+
+  pub span-known : (s : ℕ) → spanOf b r s ≡ spanStep b r s
+  span-known s = span-call b r s ∙ ap (λ (n : ℕ). checked n r (spanStep b r s)) passed
+
+  pub gap-known : gapOf b r ≡ gapStep b r
+  gap-known = gap-call b r ∙ ap (λ (n : ℕ). checked n r (gapStep b r)) passed
+
+  -- and a question is told what was asked
+  pub questions-known : (verdictOf b r ≡ told (verdictAt (tableOf b) (pairsOf b r)))
+      × (settledOf b r ≡ told (settledAt (tableOf b) (pairsOf b r))) × (countOf b r ≡ told (needed b (pairsOf b r)))
+  unfolding verdictOf settledOf countOf
+  questions-known = (rw passed, rw passed, rw passed)
 
 -- ---- a letter, where they passed
 
@@ -174,3 +190,10 @@ module _ (b : List ℕ) (r : Record) (s : ℕ) where
       same : recordOf (r .room) (horizon T) (spanPairs (horizon T) s (pairsAt (horizon T) r))
           ≡ holding b (r .room) (stepped b r (span s))
       same = ap (recordOf (r .room) (horizon T)) (span-stepped T s (pairsAt (horizon T) r))
+
+-- ---- a gap, where they passed
+
+pub gap-held : (b : List ℕ) (H : ℕ) (r : Record) → Known b H r → (next : Record)
+    → next ≡ recordOf (r .room) H (gapPairs (tableOf b)) → accepted next ≡ gapStep b r
+unfolding gapStep
+gap-held b H r k next e = ap accepted (e ∙ ap (λ (h : ℕ). recordOf (r .room) h (gapPairs (tableOf b))) (k .reach))

@@ -99,13 +99,17 @@ spanOf b r s = answer (spanFault b r s) r (holding b (r .room) (stepped b r (spa
 unfoldable pub gapOf : List ℕ → Record → Answer
 gapOf b r = answer (recordFault b r) r (holding b (r .room) (gapPairs (tableOf b)))
 
--- ---- a call as its checks and its step: what is left of it where the checks 1 to 8 passed (`letter-call`, `span-call`)
+-- ---- a call as its checks and its step: what is left of it where the checks 1 to 8 passed (`letter-call`, `span-call`,
+-- `gap-call`)
 
 unfoldable pub letterStep : List ℕ → Record → ℕ → Answer
 letterStep b r a = answer (letterChecks b r a) r (holding b (r .room) (stepped b r (letter a)))
 
 unfoldable pub spanStep : List ℕ → Record → ℕ → Answer
 spanStep b r s = answer (spanChecks s) r (holding b (r .room) (stepped b r (span s)))
+
+unfoldable pub gapStep : List ℕ → Record → Answer
+gapStep b r = accepted (holding b (r .room) (gapPairs (tableOf b)))
 
 -- the number of a check that failed with the record as it was handed in; where none did, the step
 abbrev pub checked : ℕ → Record → Answer → Answer

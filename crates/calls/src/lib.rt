@@ -7,7 +7,7 @@ ghost use lib.Dec.{leb};
 ghost use Rattle.base.specs.Checks.{_if_};
 ghost use Rattle.record.specs.Records.{blankRecord, properb};
 ghost use Rattle.image.specs.Known.{Known};
-ghost use Rattle.calls.specs.Calls.{startFault, recordFault, startOf, letterOf, spanOf, gapOf, letterStep, spanStep};
+ghost use Rattle.calls.specs.Calls.{startFault, recordFault, startOf, letterOf, spanOf, gapOf, letterStep, spanStep, gapStep};
 ghost use Rattle.calls.specs.Calls.{accepted, refusal};
 ghost use Rattle.calls.specs.Calls.{verdictOf, settledOf, countOf, verdictReply, settledReply, countReply};
 use record::Record;
@@ -184,6 +184,15 @@ pub fn span(t: &[u8], r: Record, seconds: u32) -> Answer
     span_step(t, horizon, r, seconds)
 }
 
+// The gap, where the checks 1 to 8 have passed and H is known.
+pub fn gap_step(t: &[u8], horizon: u32, r: Record) -> Answer
+    requires { ⌜ Known (now t) horizon r ⌝ }
+    ensures { λ x. ⌜ x ≡ gapStep (now (t .entry)) r ⌝ }
+{
+    let next = spans::at_gap(t, horizon, r.room);
+    accepted(next)
+}
+
 // Some of the stream is lost: nothing is assumed of what stands now.
 pub fn gap(t: &[u8], r: Record) -> Answer
     ensures { λ x. ⌜ x ≡ gapOf (now (t .entry)) r ⌝ }
@@ -193,8 +202,7 @@ pub fn gap(t: &[u8], r: Record) -> Answer
         return refused(number, r);
     }
     let horizon = meaning::horizon_of(t);
-    let next = spans::at_gap(t, horizon, r.room);
-    accepted(next)
+    gap_step(t, horizon, r)
 }
 
 // ---- the questions

@@ -108,3 +108,49 @@ impl Draft {
         bytes
     }
 }
+
+/// The table of the worked session: 0 refreshed, 1 look; state 0 waiting, state 1 fresh.
+pub fn board() -> TableDraft {
+    TableDraft {
+        version: 1,
+        length: None,
+        states: 2,
+        letters: 2,
+        initial: 1,
+        standing: 1,
+        accepting: 2,
+        lines: vec![line(0, 0, 1, RESETS, 0, NONE), line(1, 1, 1, KEEPS, 0, 5)],
+    }
+}
+
+/// The entries of the worked session.
+pub fn board_entries() -> Vec<Symbol> {
+    use Symbol::{Gap, Letter, Span};
+    vec![
+        Letter(0),
+        Span(5),
+        Letter(1),
+        Span(1),
+        Letter(1),
+        Gap,
+        Letter(1),
+        Span(2),
+        Letter(0),
+        Span(0),
+        Letter(2),
+    ]
+}
+
+/// One state, initial and accepting, which letter 0 keeps at any age.
+pub fn plain() -> TableDraft {
+    TableDraft {
+        version: 1,
+        length: None,
+        states: 1,
+        letters: 1,
+        initial: 1,
+        standing: 0,
+        accepting: 1,
+        lines: vec![line(0, 0, 0, KEEPS, 0, NONE)],
+    }
+}

@@ -1,20 +1,23 @@
 //! The kinds of sessions, each with what it must reach. A session is given by its kind, the seed and its number.
 
+use crate::generate::edges::{self, edges};
 use crate::generate::faults::{pair, single, Faulty, PAIRS, SINGLES};
 use crate::generate::goals::{
-    count_none, count_of, every_word, every_word_after_gap, frame_refused, horizon_of,
+    count_none, count_of, every_word, every_word_after_gap, frame_refused, goal, horizon_of,
     into_room_and_out, letter_at_state, read_whole, refused, span_taken, unreadable_after, Goal,
 };
 use crate::generate::make;
 use crate::generate::random::Random;
 use crate::session::LONGEST;
 use crate::table::GREATEST;
-use crate::watch::Answer;
+use crate::watch::{lines, Answer};
 
 pub struct Session {
     pub bytes: Vec<u8>,
     /// Refusals that must stand in its answers: ordinal and number.
     pub refusals: Vec<(usize, u8)>,
+    /// All of its lines, where they were worked out beforehand.
+    pub lines: Option<String>,
 }
 
 impl Session {
@@ -22,6 +25,7 @@ impl Session {
         Session {
             bytes,
             refusals: Vec::new(),
+            lines: None,
         }
     }
 
@@ -29,16 +33,30 @@ impl Session {
         Session {
             bytes: faulty.draft.bytes(),
             refusals: faulty.refusals,
+            lines: None,
         }
     }
 
-    /// The stated refusals stand in the answers, and nothing stands behind a refused start.
+    /// The `number`-th edge, counted round.
+    fn at_edge(number: usize) -> Session {
+        let mut edges = edges();
+        let edge = edges.swap_remove(number % edges.len());
+        Session {
+            bytes: edge.bytes,
+            refusals: Vec::new(),
+            lines: Some(edge.lines),
+        }
+    }
+
+    /// The stated refusals stand in the answers, nothing stands behind a refused start, and stated lines are those of
+    /// the answers.
     pub fn answered_as_stated(&self, answers: &[Answer]) -> bool {
         let stands = |&(ordinal, number): &(usize, u8)| {
             answers.get(ordinal) == Some(&Answer::Refused(number))
                 && (ordinal > 0 || answers.len() == 1)
         };
-        self.refusals.iter().all(stands)
+        let stated = self.lines.as_ref();
+        self.refusals.iter().all(stands) && stated.map_or(true, |stated| *stated == lines(answers))
     }
 }
 
@@ -48,6 +66,8 @@ pub struct Kind {
     make: fn(&mut Random, usize) -> Session,
     /// How many sessions it takes to reach the goals.
     pub least: usize,
+    /// How many there are: no more are compared.
+    pub most: usize,
     pub goals: fn() -> Vec<Goal>,
 }
 
@@ -57,12 +77,24 @@ impl Kind {
     }
 }
 
-pub static KINDS: [Kind; 11] = [
+pub static KINDS: [Kind; 12] = [
+    Kind {
+        name: "edges",
+        about: "both sides of each edge, with lines worked out by hand; the same for every seed",
+        make: |_, number| Session::at_edge(number),
+        least: edges::COUNT,
+        most: edges::COUNT,
+        goals: || {
+            let run = |edge: edges::Edge| goal(edge.name, move |s| s.bytes == edge.bytes);
+            edges().into_iter().map(run).collect()
+        },
+    },
     Kind {
         name: "small",
         about: "horizons of 0 to 8",
         make: |random, number| Session::plain(make::small(random, number).bytes()),
         least: 100,
+        most: usize::MAX,
         goals: || {
             let counts = [count_none(), count_of(3)];
             joined(every_word(), joined(refusals(9..=11), counts))
@@ -73,6 +105,7 @@ pub static KINDS: [Kind; 11] = [
         about: "many gaps",
         make: |random, number| Session::plain(make::gaps(random, number).bytes()),
         least: 100,
+        most: usize::MAX,
         goals: || joined(every_word(), every_word_after_gap()),
     },
     Kind {
@@ -80,6 +113,7 @@ pub static KINDS: [Kind; 11] = [
         about: "horizons of 1,000 to 300,000",
         make: |random, number| Session::plain(make::wide(random, number).bytes()),
         least: 60,
+        most: usize::MAX,
         goals: || joined(every_word(), [count_none(), count_of(6)]),
     },
     Kind {
@@ -87,6 +121,7 @@ pub static KINDS: [Kind; 11] = [
         about: "horizons up to 31,622,400, spans up to 2,147,483,647",
         make: |random, number| Session::plain(make::year(random, number).bytes()),
         least: 6,
+        most: usize::MAX,
         goals: || {
             let longest = [horizon_of(GREATEST), span_taken(make::LONGEST_SPAN)];
             joined(every_word(), joined(longest, [count_of(2)]))
@@ -97,6 +132,7 @@ pub static KINDS: [Kind; 11] = [
         about: "each room driven into 11 and out again",
         make: |random, number| Session::plain(make::rooms(random, number).bytes()),
         least: 64,
+        most: usize::MAX,
         goals: || (1..=64).map(into_room_and_out).collect(),
     },
     Kind {
@@ -104,6 +140,7 @@ pub static KINDS: [Kind; 11] = [
         about: "16 states, 32 letters, 64 lines",
         make: |random, number| Session::plain(make::heavy(random, number).bytes()),
         least: 60,
+        most: usize::MAX,
         goals: || {
             joined(
                 every_word(),
@@ -116,6 +153,7 @@ pub static KINDS: [Kind; 11] = [
         about: "up to the longest session and above",
         make: |random, number| Session::plain(make::long(random, number).bytes()),
         least: 6,
+        most: usize::MAX,
         goals: || {
             vec![
                 read_whole(LONGEST),
@@ -129,6 +167,7 @@ pub static KINDS: [Kind; 11] = [
         about: "each refusal alone",
         make: |random, number| Session::faulty(single(random, number)),
         least: SINGLES,
+        most: usize::MAX,
         goals: || refusals(1..=12),
     },
     Kind {
@@ -136,6 +175,7 @@ pub static KINDS: [Kind; 11] = [
         about: "each pair of refusals",
         make: |random, number| Session::faulty(pair(random, number)),
         least: PAIRS,
+        most: usize::MAX,
         goals: || refusals(1..=12),
     },
     Kind {
@@ -143,6 +183,7 @@ pub static KINDS: [Kind; 11] = [
         about: "bytes changed, lost or added",
         make: |random, number| Session::plain(make::damaged(random, number)),
         least: 120,
+        most: usize::MAX,
         goals: || {
             joined(
                 refusals([2, 3, 4, 5, 6, 7, 9, 10, 12]),
@@ -155,6 +196,7 @@ pub static KINDS: [Kind; 11] = [
         about: "sessions that break off",
         make: |random, number| Session::plain(make::cut(random, number)),
         least: 60,
+        most: usize::MAX,
         goals: || joined(refusals([1, 4, 12]), [unreadable_after(1)]),
     },
 ];

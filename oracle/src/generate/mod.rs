@@ -1,6 +1,7 @@
-//! Sessions from a seed, of several kinds, each with what its sessions must reach.
+//! Sessions of several kinds, from a seed or worked out by hand, each kind with what its sessions must reach.
 
 pub mod draft;
+pub mod edges;
 pub mod faults;
 pub mod goals;
 pub mod kinds;

@@ -2,7 +2,7 @@
 use mathlib.Core.Path.{sym, _∙_}
 use borrow.Author.Needs.{needs}
 use denote.Ref.{now}
-use Rattle.calls.proofs.Steps.{gap-call, call-refused, call-passed, known, gap-held}
+use Rattle.calls.proofs.Steps.{gap-call, call-refused, call-passed, known}
 use Rattle.calls.proofs.gap.Statement.{statement}
 use Rattle.calls.proofs.gap.Tie as tie
 
@@ -23,24 +23,19 @@ returns c =
 horizon-of-requires : tie.Need-horizon-of-requires
 horizon-of-requires c κs = search needs
 
-at-gap-requires : tie.Need-at-gap-requires
-at-gap-requires c κs =
+gap-step-requires : tie.Need-gap-step-requires
+gap-step-requires c κs =
     let fault = c .before .before .record-fault in
-    let k = known _ _ _ (fault .result) (fault .ensures) (c .before .if1 .left) (c .horizon-of .ensures) in
-    (k .sound, (k .proper .room-low, k .proper .room-high))
-
-accepted-requires : tie.Need-accepted-requires
-accepted-requires c κs = search needs
+    known _ _ _ (fault .result) (fault .ensures) (c .before .if1 .left) (c .horizon-of .ensures)
 
 returns-2 : tie.Need-returns-2
 returns-2 c =
-    let a = c .before .before .before .before .before .before .args in
-    let fault = c .before .before .before .before .record-fault in
-    c .accepted .ensures ∙ call-passed (fault .result) _ (a .r) _ _ (fault .ensures) (c .before .before .before .if1 .left)
-    (gap-held (now (a .t)) (a .r .room) _ _ (c .before .before .horizon-of .ensures) (c .before .at-gap .ensures))
+    let a = c .before .before .before .before .before .args in
+    let fault = c .before .before .before .record-fault in
+    call-passed (fault .result) _ (a .r) _ _ (fault .ensures) (c .before .before .if1 .left) (c .gap-step .ensures)
     ∙ sym (gap-call (now (a .t)) (a .r))
 
 pub gap-spec : {M : Type 1} → statement M
 gap-spec =
     tie.close
-    (tie.spec record-fault-requires refused-requires returns horizon-of-requires at-gap-requires accepted-requires returns-2)
+    (tie.spec record-fault-requires refused-requires returns horizon-of-requires gap-step-requires returns-2)

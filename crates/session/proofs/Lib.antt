@@ -1,0 +1,4 @@
+pub mod Laws
+pub mod Turn
+pub mod Whole
+pub mod Cases
