@@ -2,7 +2,7 @@
 
 mod common;
 
-use common::{printed, said};
+use common::printed;
 use oracle::ages::Ages;
 use oracle::calls::{ask, start, step};
 use oracle::generate::draft::{board, board_entries, Draft};
@@ -60,27 +60,6 @@ fn its_twelve_lines() {
 fn the_draft_is_the_same_session() {
     let draft = Draft::new(4, board(), board_entries());
     assert_eq!(draft.bytes(), bytes(SESSION));
-}
-
-#[test]
-fn with_room_1_entry_3_is_refused_and_the_session_goes_on() {
-    assert_eq!(
-        said(1, board(), board_entries()),
-        [
-            "0 no settled 1",
-            "1 yes settled 1",
-            "2 yes settled 1",
-            "3 refused 11",
-            "4 yes settled 0",
-            "5 no settled 1",
-            "6 unsure open 1",
-            "7 refused 11",
-            "8 unsure open 1",
-            "9 unsure open 1",
-            "10 refused 10",
-            "11 refused 9",
-        ]
-    );
 }
 
 /// The lines of the session by calls alone, each handed the record before it, and these records.

@@ -1,6 +1,6 @@
 -- What each call promises settles its answer: two answers that meet the promise are the same (`start-settles`,
 -- `letter-settles`, `span-settles`, `gap-settles`, `verdict-settles`, `settled-settles`, `count-settles`, `fault-settles`; the
--- steps: `letter-step-settles`, `span-step-settles`). Assumes nothing.
+-- steps: `letter-step-settles`, `span-step-settles`, `gap-step-settles`). Assumes nothing.
 use Prim.Native.Nat.{ℕ}
 use mathlib.Core.Path.{_≡_, sym, ap, _∙_, subst}
 use mathlib.Core.List.{List}
@@ -13,7 +13,7 @@ use Rattle.calls.specs.declared.SettledReply.{SettledReply}
 use Rattle.calls.specs.declared.SettledReply.the-variants as SettledCases
 use Rattle.calls.specs.declared.CountReply.{CountReply}
 use Rattle.calls.specs.declared.CountReply.the-variants as CountCases
-use Rattle.calls.specs.Calls.{recordFault, startOf, letterOf, spanOf, gapOf, letterStep, spanStep, Reply, refused, told, replyNumber, verdictOf, settledOf, countOf, verdictReply, settledReply, countReply}
+use Rattle.calls.specs.Calls.{recordFault, startOf, letterOf, spanOf, gapOf, letterStep, spanStep, gapStep, Reply, refused, told, replyNumber, verdictOf, settledOf, countOf, verdictReply, settledReply, countReply}
 
 -- two results that meet the promise P are the same
 abbrev pub Settles : {A : Type 0} → (A → Type 0) → Type 0
@@ -82,6 +82,9 @@ module _ (b : List ℕ) (r : Record) where
 
   pub span-step-settles : (s : ℕ) → Settles (λ (x : Answer). x ≡ spanStep b r s)
   span-step-settles s = equal-settles (spanStep b r s)
+
+  pub gap-step-settles : Settles (λ (x : Answer). x ≡ gapStep b r)
+  gap-step-settles = equal-settles (gapStep b r)
 
   pub gap-settles : Settles (λ (x : Answer). x ≡ gapOf b r)
   gap-settles = equal-settles (gapOf b r)

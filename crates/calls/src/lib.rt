@@ -1,14 +1,15 @@
 // The calls: start, letter, span and gap, and the questions verdict, settled and count. Each may be handed anything: its checks
-// come first, in their order, and what fails one is refused with its number. Under the checks of a letter and a span lie their
-// steps, for a caller that knows its table and its record to pass 1 to 8; the other steps are those of `spans` and `verdicts`.
+// come first, in their order, and what fails one is refused with its number. Under the checks of a letter, a span and a gap lie
+// their steps, for a caller that knows its table and its record to pass 1 to 8; a start's is that of `spans`, a question's those of
+// `verdicts`.
 ghost use mathlib.Core.Path.{_≡_};
 ghost use mathlib.Core.Bool.{_&&_, not};
 ghost use lib.Dec.{leb};
 ghost use Rattle.base.specs.Checks.{_if_};
 ghost use Rattle.record.specs.Records.{blankRecord, properb};
 ghost use Rattle.image.specs.Known.{Known};
-ghost use Rattle.calls.specs.Calls.{startFault, recordFault, startOf, letterOf, spanOf, gapOf, letterStep, spanStep, gapStep};
-ghost use Rattle.calls.specs.Calls.{accepted, refusal};
+ghost use Rattle.calls.specs.Calls.{startFault, recordFault, startOf, letterOf, spanOf, gapOf};
+ghost use Rattle.calls.specs.Calls.{letterStep, spanStep, gapStep, accepted, refusal};
 ghost use Rattle.calls.specs.Calls.{verdictOf, settledOf, countOf, verdictReply, settledReply, countReply};
 use record::Record;
 use verdicts::Verdict;

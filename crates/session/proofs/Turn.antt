@@ -1,9 +1,11 @@
 -- The entries one by one, as code takes them (`Going`): so much is written, and with the lines of the entries that are left it
 -- is the whole (`going-begun`). An entry that is read moves its line over (`going-on`); one that is not ends it
--- (`going-unread`), and so does the end of the input (`going-over`). Assumes nothing.
+-- (`going-unread`), and so does the end of the input (`going-over`). Before that, the lines of the entries by themselves, of
+-- which enough are allowed for (`entries-enough`). Assumes nothing.
 use Prim.Native.Nat.{ℕ, zero, suc, _+_, _-_, _*_, _≤_, _<_}
 use mathlib.Core.Path.{_≡_, refl, sym, ap, _∙_, subst}
 use mathlib.Core.List.{List, [], _++_, append-nil, append-assoc}
+use native.Mathlib.Decide.{decLe}
 use native.Mathlib.Omega.{arith}
 use lib.ListN.{length, take}
 use borrow.Author.Tests.{lt-ltb, le-ltb}
@@ -41,6 +43,37 @@ module _ (b s : List ℕ) (at ordinal : ℕ) (r : Record) where
         ++ entriesText b s most next (suc (e .ordinal)) (callOf b r (e .symbol) .next)
     unfolding entriesText
     entries-got e next h = rw (lt-ltb at (length s) l, h)
+
+-- the lines are the same, however many entries are allowed for, if no fewer than there are bytes left
+pub entries-enough : (b s : List ℕ) (m n at ordinal : ℕ) (r : Record) → length s ≤ at + m → length s ≤ at + n
+    → entriesText b s m at ordinal r ≡ entriesText b s n at ordinal r
+entries-enough b s zero n at ordinal r l k =
+    let over : length s ≤ at = omega (arith, l) in
+    entries-none b s at ordinal r zero over ∙ sym (entries-none b s at ordinal r n over)
+entries-enough b s (suc m) zero at ordinal r l k =
+    let over : length s ≤ at = omega (arith, k) in
+    entries-none b s at ordinal r (suc m) over ∙ sym (entries-none b s at ordinal r zero over)
+entries-enough b s (suc m) (suc n) at ordinal r l k =
+    go (entries-enough b s m n) (decLe (length s) at)
+  where
+    Further : Type 0
+    Further = (at ordinal : ℕ) (r : Record) → length s ≤ at + m → length s ≤ at + n
+        → entriesText b s m at ordinal r ≡ entriesText b s n at ordinal r
+
+    by-read : Further → at < length s → (x : Read) → readAt s at ordinal ≡ x
+        → entriesText b s (suc m) at ordinal r ≡ entriesText b s (suc n) at ordinal r
+    by-read further more Unreadable e = entries-unread b s at ordinal r m more e ∙ sym (entries-unread b s at ordinal r n more e)
+    by-read further more (Got x next) e =
+        let onward = read-onward s at ordinal x next e in
+        let called = callOf b r (x .symbol) in
+        let rest = further next (suc (x .ordinal)) (called .next) (omega (arith, l, onward .0)) (omega (arith, k, onward .0)) in
+        entries-got b s at ordinal r m more x next e
+        ∙ ap (λ (w : List ℕ). answerText b (x .ordinal) called ++ w) rest
+        ∙ sym (entries-got b s at ordinal r n more x next e)
+
+    go : Further → Dec (length s ≤ at) → entriesText b s (suc m) at ordinal r ≡ entriesText b s (suc n) at ordinal r
+    go further (yes w) = entries-none b s at ordinal r (suc m) w ∙ sym (entries-none b s at ordinal r (suc n) w)
+    go further (no w) = by-read further (omega arith) (readAt s at ordinal) refl
 
 -- ---- a turn
 

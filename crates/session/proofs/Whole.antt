@@ -1,5 +1,6 @@
 -- The start's line and the entries' lines, together (`begun-refused`, `begun-accepted`), are the session's text (`in-frame`,
--- `unframed`), which then stands at the start of the buffer, counted (`whole-wrote`). Assumes nothing.
+-- `unframed`), which then stands at the start of the buffer, counted (`whole-wrote`). That settles what is printed
+-- (`session-settles`). Assumes nothing.
 use Prim.Native.Nat.{ℕ, _+_}
 use mathlib.Core.Path.{_≡_, sym, ap, _∙_, subst}
 use mathlib.Core.Logic.{_≢_}
@@ -72,6 +73,12 @@ module _ (s : List ℕ) where
       → Wrote before 0 (sessionOf s) after end
   unfolding sessionOf
   unframed e before after end w = rw e w
+
+-- two results that meet the session's promise are the same: as many bytes, and the same ones
+pub session-settles : (s x y : List ℕ) (m n : ℕ)
+    → (take m x ≡ sessionOf s) × (m ≡ length (sessionOf s)) → (take n y ≡ sessionOf s) × (n ≡ length (sessionOf s))
+    → (m ≡ n) × (take m x ≡ take n y)
+session-settles s x y m n v w = (v .1 ∙ sym (w .1), v .0 ∙ sym (w .0))
 
 -- what stands at the start of the buffer is the text, and it is counted
 pub whole-wrote : (text before after : List ℕ) (end : ℕ) → Wrote before 0 text after end

@@ -5,13 +5,18 @@ use lib.ListN.{length}
 use Rattle.record.specs.declared.Record.{Record}
 use Rattle.image.specs.Known.{Known}
 
--- the entries of s begin at the place `from`, behind the version byte and the room byte; and a buffer of `size` bytes has 27
--- for every two bytes of the longest session, and for one line more
+-- room for every line of a session: a line has at most 27 bytes, and there is one for the start and at most one for every two
+-- of 32,768 bytes, 16,385 in all
+abbrev pub roomForLines : ℕ
+roomForLines = 442395
+
+-- the entries of s begin at the place `from`, behind the version byte and the room byte; and a buffer of `size` bytes has room
+-- for every line
 pub record Begins (s : List ℕ) (from size : ℕ) : Type 0 where
   pub short : length s ≤ 32768
   pub behind : 2 ≤ from
   pub within : from ≤ length s
-  pub roomy : 442395 ≤ size
+  pub roomy : roomForLines ≤ size
 
 -- the table b passed and r is proper for it; the entries of s begin at the place `from`; and a buffer of `size` bytes, in which
 -- the lines are written from place `at` on, has 27 for every two of the bytes that are left, and for one more

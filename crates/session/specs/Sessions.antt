@@ -29,6 +29,7 @@ framed s = leb 2 (length s) && leb (length s) 32768 && eqb (byte s 0) 1
 unfoldable pub tableLength : List ℕ → ℕ
 tableLength s = cond (ltb (length s - 2) 3) (length s - 2) (min (be16Of (byte s 3) (byte s 4)) (length s - 2))
 
+-- the table slice
 unfoldable pub tableIn : List ℕ → List ℕ
 tableIn s = take (tableLength s) (drop 2 s)
 
@@ -40,8 +41,8 @@ callOf b r (Letter a) = letterOf b r a
 callOf b r (Span s) = spanOf b r s
 callOf b r Gap = gapOf b r
 
--- the verdict, `settled` or `open`, and the count, of the record that is held now. The questions
--- are told the same (`calls`: `questions-known`)
+-- the verdict, `settled` or `open`, and the count, of the record that is held now; the questions are told the same
+-- (`questions-known`)
 abbrev pub heldText : List ℕ → ℕ → Record → List ℕ
 heldText b ordinal r =
     lineText ordinal (verdictAt (tableOf b) (pairsOf b r)) (settledAt (tableOf b) (pairsOf b r)) (needed b (pairsOf b r))
@@ -66,7 +67,8 @@ entriesText b s (suc most) at ordinal r =
     (readText b r ordinal (λ next later held. entriesText b s most next later held) (readAt s at ordinal))
     []
 
--- all entries, from the place `from` on: each has two bytes at least, so there are no more of them than bytes
+-- all entries, from the place `from` on: each has two bytes at least, so there are no more of them than bytes, and to allow for
+-- more changes nothing (`entries-enough`)
 abbrev pub entriesFrom : List ℕ → List ℕ → ℕ → Record → List ℕ
 entriesFrom b s from r = entriesText b s (length s) from 1 r
 
@@ -76,6 +78,7 @@ entriesFrom b s from r = entriesText b s (length s) from 1 r
 unfoldable pub begunText : List ℕ → List ℕ → ℕ → Answer → List ℕ
 begunText b s from a = answerText b 0 a ++ cond (eqb (a .number) 0) (entriesFrom b s from (a .next)) []
 
+-- the same where a start in that room answers for the table b
 abbrev pub startedText : List ℕ → List ℕ → ℕ → ℕ → List ℕ
 startedText b s room from = begunText b s from (startOf b room)
 

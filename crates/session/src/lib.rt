@@ -9,7 +9,7 @@ ghost use Rattle.image.specs.Known.{Known};
 ghost use Rattle.text.specs.Text.{Wrote};
 ghost use Rattle.session.specs.Sessions.{framed, tableLength, callOf, answerText, entriesFrom, startedText};
 ghost use Rattle.session.specs.Sessions.{sessionOf};
-ghost use Rattle.session.specs.Ready.{Begins, Ready};
+ghost use Rattle.session.specs.Ready.{roomForLines, Begins, Ready};
 use calls::Answer;
 use entries::Read;
 use entries::Symbol;
@@ -118,12 +118,13 @@ fn put_entries(
 
 // ---- the session
 
-// Room for every line of a session: a line has at most 27 bytes, and there is one for the start and at most one for every two of
-// 32,768 bytes.
-pub fn lines_buffer() -> [u8; 442395]
-    ensures { λ r. ⌜ 442395 ≡ length r ⌝ }
+// Room for every line of a session: 27 bytes for each, for the start's and for one for every two of 32,768 bytes.
+pub const LINES: usize = 442_395;
+
+pub fn lines_buffer() -> [u8; LINES]
+    ensures { λ r. ⌜ roomForLines ≡ length r ⌝ }
 {
-    [0; 442395]
+    [0; LINES]
 }
 
 // The start's line and, where it is accepted, the entries behind the table t.
@@ -144,7 +145,7 @@ fn put_begun(s: &[u8], t: &[u8], room: u8, from: usize, out: &mut [u8]) -> usize
 // The lines of a session that is framed: the table is cut off, and the entries begin behind it.
 fn put_framed(s: &[u8], out: &mut [u8]) -> usize
     requires { ⌜ framed (now s) ≡ true ⌝ }
-    requires { ⌜ 442395 ≤ length (now out) ⌝ }
+    requires { ⌜ roomForLines ≤ length (now out) ⌝ }
     ensures { λ end. ⌜ Wrote (now (out .entry)) 0 (sessionOf (now (s .entry))) (now (out .exit)) end ⌝ }
 {
     let count = table_length(s);
@@ -153,7 +154,7 @@ fn put_framed(s: &[u8], out: &mut [u8]) -> usize
 }
 
 // The session s: the bytes to print stand at the start of out, as many as is answered.
-pub fn session(s: &[u8], out: &mut [u8; 442395]) -> usize
+pub fn session(s: &[u8], out: &mut [u8; LINES]) -> usize
     ensures { λ n. ⌜ take n (now (out .exit)) ≡ sessionOf (now (s .entry)) ⌝ }
     ensures { λ n. ⌜ n ≡ length (sessionOf (now (s .entry))) ⌝ }
     ensures { λ n. ⌜ Counts n (now (out .exit)) ⌝ }

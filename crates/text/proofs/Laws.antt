@@ -32,6 +32,11 @@ pub wrote-then : (before mid after : List ℕ) (at here end : ℕ) (v w : List �
 wrote-then before mid after at here end v w first second =
     (simp length-append (omega arith), second .1 ∙ rw (first .1, append-assoc))
 
+-- two results of one writing are the same, as far as the text goes
+pub wrote-settles : (before word x y : List ℕ) (at m n : ℕ) → Wrote before at word x m → Wrote before at word y n
+    → (m ≡ n) × (take m x ≡ take n y)
+wrote-settles before word x y at m n v w = (v .0 ∙ sym (w .0), v .1 ∙ sym (w .1))
+
 -- what stood before the word stays
 pub wrote-kept : (before after word : List ℕ) (at end : ℕ) → at ≤ length before → Wrote before at word after end
     → take at after ≡ take at before

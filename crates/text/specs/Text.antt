@@ -59,6 +59,6 @@ unfoldable pub refusalText : ℕ → ℕ → List ℕ
 refusalText ordinal number = decimal ordinal ++ (space ∷ refusedText) ++ lastWord number
 
 -- the word was written into a buffer from place `at` on, and ends before place `end`: up to there the buffer has what it had
--- before `at`, and then the word
+-- before `at`, and then the word. So what stood before `at` stays (`wrote-kept`); of what stands from `end` on nothing is said
 abbrev pub Wrote : List ℕ → ℕ → List ℕ → List ℕ → ℕ → Type 0
 Wrote before at word after end = (end ≡ at + length word) × (take end after ≡ take at before ++ word)

@@ -293,31 +293,30 @@ fn the_worked_session_in_room_1() -> Vec<Side> {
     vec![session(1, board(), board_entries(), &lines)]
 }
 
-fn age_0_joins_age_1_before_the_count() -> Vec<Side> {
-    // ages 0 and 1 come to hold state 0 from different sides: one stretch, so that room 1 is enough
-    let table = TableDraft {
+/// One state, which stands, and which letter 0 keeps up to age 3.
+fn standing_to_3() -> TableDraft {
+    TableDraft {
         standing: 1,
         lines: vec![line(0, 0, 0, KEEPS, 0, 3)],
         ..plain()
-    };
+    }
+}
+
+fn age_0_joins_age_1_before_the_count() -> Vec<Side> {
+    // ages 0 and 1 come to hold state 0 from different sides: one stretch, so that room 1 is enough
     let after = |seconds, said| {
         let entries = vec![Span(seconds), Letter(0)];
         let lines = ["0 yes settled 1", "1 yes settled 1", said];
-        session(1, table.clone(), entries, &lines)
+        session(1, standing_to_3(), entries, &lines)
     };
     vec![after(1, "2 yes settled 1"), after(2, "2 refused 11")]
 }
 
 fn a_stretch_ends_where_the_sure_set_changes() -> Vec<Side> {
     // after the gap state 0 may have any age from 0 to 3, and is sure to have age 0
-    let table = TableDraft {
-        standing: 1,
-        lines: vec![line(0, 0, 0, KEEPS, 0, 3)],
-        ..plain()
-    };
     let of = |room, said| {
         let lines = ["0 yes settled 1", "1 unsure open 1", said];
-        session(room, table.clone(), vec![Gap, Letter(0)], &lines)
+        session(room, standing_to_3(), vec![Gap, Letter(0)], &lines)
     };
     vec![of(2, "2 yes open 2"), of(1, "2 refused 11")]
 }

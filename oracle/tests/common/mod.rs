@@ -2,12 +2,10 @@
 #![allow(dead_code)]
 
 use oracle::ages::Ages;
-use oracle::generate::draft::{Draft, TableDraft};
 use oracle::judge::probe::{serve, Kind};
 use oracle::judge::reached::Reached;
 use oracle::judge::{judge, Case, Part};
 use oracle::run::Failure;
-use oracle::session::Symbol;
 use oracle::spells::Spells;
 use oracle::watch::{answers, lines};
 use std::process::{Command, Output, Stdio};
@@ -63,10 +61,4 @@ pub fn printed(input: &[u8]) -> String {
     let by_spells = lines(&answers::<Spells>(input));
     assert_eq!(by_ages, by_spells, "the two forms differ");
     by_ages
-}
-
-/// The lines that both forms print, without the line ends.
-pub fn said(room: u8, table: TableDraft, entries: Vec<Symbol>) -> Vec<String> {
-    let input = Draft::new(room, table, entries).bytes();
-    printed(&input).lines().map(str::to_string).collect()
 }
