@@ -13,13 +13,15 @@ use Rattle.record.specs.declared.Pair.{Pair}
 use Rattle.record.specs.Pairs.{noPair}
 use Rattle.image.specs.Images.{imagePair, least, lineUntil, untilOf}
 
--- of letter 0: ages 0 to 1, 2 to 4, 5 to 6, and on from 7; of letter 1: ages 0 to 1, age 2, and on from 3. Nothing goes past the
--- age that was asked
-pub pieces : (map (λ (x : ℕ). untilOf (tableOf pump-table) 0 x 9) (0 ∷ 2 ∷ 5 ∷ 7 ∷ []) ≡ 1 ∷ 4 ∷ 6 ∷ 9 ∷ [])
-    × (map (λ (x : ℕ). untilOf (tableOf pump-table) 1 x 9) (0 ∷ 2 ∷ 3 ∷ []) ≡ 1 ∷ 2 ∷ 9 ∷ [])
-    × (untilOf (tableOf pump-table) 0 3 3 ≡ 3)
+-- of letter 0, by the lines that keep: ages 0 to 6, and on from 7; by the one that resets: ages 0 to 1, 2 to 4, and on from 5. Of
+-- letter 1, likewise: ages 0 to 2, and on from 3; ages 0 to 1, and on from 2. Nothing goes past the age that was asked
+pub pieces : (map (λ (x : ℕ). untilOf (tableOf pump-table) false 0 x 9) (0 ∷ 2 ∷ 7 ∷ []) ≡ 6 ∷ 6 ∷ 9 ∷ [])
+    × (map (λ (x : ℕ). untilOf (tableOf pump-table) true 0 x 9) (0 ∷ 2 ∷ 5 ∷ []) ≡ 1 ∷ 4 ∷ 9 ∷ [])
+    × (map (λ (x : ℕ). untilOf (tableOf pump-table) false 1 x 9) (0 ∷ 2 ∷ 3 ∷ []) ≡ 2 ∷ 2 ∷ 9 ∷ [])
+    × (map (λ (x : ℕ). untilOf (tableOf pump-table) true 1 x 9) (0 ∷ 1 ∷ 2 ∷ []) ≡ 1 ∷ 1 ∷ 9 ∷ [])
+    × (untilOf (tableOf pump-table) true 0 3 3 ≡ 3)
 unfolding untilOf least lineUntil tableOf headOf lineAt
-pieces = (refl, refl, refl)
+pieces = (refl, refl, refl, refl, refl)
 
 -- state 0 is possible and not sure; letter 0 leads it to state 2, reset, at ages 2 to 4, and to state 1, kept, at any age
 pub led-apart :

@@ -28,7 +28,8 @@ use Rattle.record.proofs.Records.{pairsAt-above}
 use Rattle.record.proofs.Together.{side, side-together, together-run, together-none}
 use Rattle.record.proofs.Places.{pairs-in, pairs-between, together-held}
 use Rattle.record.proofs.Building.{empty-held, push-held}
-use Rattle.image.specs.Images.{imagePair, untilOf}
+use Rattle.image.specs.declared.Piece.{Piece}
+use Rattle.image.specs.Images.{imagePair, untilOf, pieceOf}
 use Rattle.image.proofs.Laws.{until-within, image-piece, imagePair-none}
 use Rattle.letters.specs.Letters.{ledBack, standingPair, ledBackIn, KeptOn}
 
@@ -42,19 +43,21 @@ module _ (T : Table) (a : ℕ) (x : Stretch) where
   pub led-none : (out : Pair) → out ≡ noPair → out ≡ together (x .first) (ledBackAt T a x)
   led-none out e = e ∙ sym (together-none (ledBackAt T a x) (x .first) (λ k l. rw (lt-leb (x .first) k l)))
 
-  -- the ages from k up to `end` at once
-  pub led-piece : (k end : ℕ) (out more next : Pair) → x .first ≤ k → k ≤ x .last → end ≡ untilOf T a k (x .last)
-      → more ≡ imagePair T true a k (x .pair) → out ≡ together k (ledBackAt T a x)
-      → next ≡ both out more → next ≡ together (end + 1) (ledBackAt T a x)
-  led-piece k end out more next low high e m o d =
+  -- the ages of a piece at once
+  pub led-piece : (k : ℕ) (q : Piece) (out next : Pair) → x .first ≤ k → k ≤ x .last → q ≡ pieceOf T true a k (x .last) (x .pair)
+      → out ≡ together k (ledBackAt T a x) → next ≡ both out (q .led) → next ≡ together (q .end + 1) (ledBackAt T a x)
+  led-piece k q out next low high e o d =
       d
-      ∙ ap₂ both o m
-      ∙ sym (together-run (ledBackAt T a x) k end _ (until-within T a k (x .last) end e high .0) same)
-      ∙ ap (λ n. together n (ledBackAt T a x)) (sym (add-one end))
+      ∙ ap₂ both o (ap (λ (q : Piece). q .led) e)
+      ∙ sym (together-run (ledBackAt T a x) k (q .end) _ (until-within T true a k (x .last) (q .end) end high .0) same)
+      ∙ ap (λ n. together n (ledBackAt T a x)) (sym (add-one (q .end)))
     where
-      same : (j : ℕ) → k ≤ j → j ≤ end → ledBackAt T a x j ≡ imagePair T true a k (x .pair)
+      end : q .end ≡ untilOf T true a k (x .last)
+      end = ap (λ (q : Piece). q .end) e
+
+      same : (j : ℕ) → k ≤ j → j ≤ q .end → ledBackAt T a x j ≡ imagePair T true a k (x .pair)
       same j l u = rw (le-leb (x .first) j (omega arith))
-          (image-piece T a k (x .last) true (x .pair) j l (subst (λ (n : ℕ). j ≤ n) e u))
+          (image-piece T true a k (x .last) (x .pair) j l (subst (λ (n : ℕ). j ≤ n) end u))
 
   pub led-all : (n : ℕ) (out : Pair) → n ≡ suc (x .last) → out ≡ together n (ledBackAt T a x) → out ≡ ledBackIn T a x
   unfolding ledBackIn overAges
@@ -101,22 +104,24 @@ module _ (T : Table) (a : ℕ) (p : Pair) (lo : ℕ) (so-far : Record) where
   pub kept-none : KeptOn T a p lo lo so-far so-far
   kept-none room above g small same e = e
 
-  pub kept-piece : (k last end : ℕ) (kept : Pair) (out next : Record) → KeptOn T a p lo k so-far out → lo ≤ k → k ≤ last
-      → end ≡ untilOf T a k last → kept ≡ imagePair T false a k p → next ≡ pushed out k end kept
-      → KeptOn T a p lo (end + 1) so-far next
-  kept-piece k last end kept out next on low high e q d room above g small same s =
-      let after = until-within T a k last end e high .0 in
+  pub kept-piece : (k last : ℕ) (q : Piece) (out next : Record) → KeptOn T a p lo k so-far out → lo ≤ k → k ≤ last
+      → q ≡ pieceOf T false a k last p → next ≡ pushed out k (q .end) (q .led) → KeptOn T a p lo (q .end + 1) so-far next
+  kept-piece k last q out next on low high e d room above g small same s =
+      let after = until-within T false a k last (q .end) end high .0 in
       d
-      ∙ ap (λ (r : Record). pushed r k end kept) (on room above g small (λ j l u. same j l (omega arith)) s)
-      ∙ push-held room above (newest k g) k end kept small
-      ∙ ap (heldIn room above) (sym (newest-run g k end kept after alike))
-      ∙ ap (λ n. heldIn room above (newest n g)) (sym (add-one end))
+      ∙ ap (λ (r : Record). pushed r k (q .end) (q .led)) (on room above g small (λ j l u. same j l (omega arith)) s)
+      ∙ push-held room above (newest k g) k (q .end) (q .led) small
+      ∙ ap (heldIn room above) (sym (newest-run g k (q .end) (q .led) after alike))
+      ∙ ap (λ n. heldIn room above (newest n g)) (sym (add-one (q .end)))
     where
-      alike : (j : ℕ) → k ≤ j → j ≤ end → g j ≡ kept
+      end : q .end ≡ untilOf T false a k last
+      end = ap (λ (q : Piece). q .end) e
+
+      alike : (j : ℕ) → k ≤ j → j ≤ q .end → g j ≡ q .led
       alike j l u =
           same j (omega arith) (omega arith)
-          ∙ image-piece T a k last false p j l (subst (λ (n : ℕ). j ≤ n) e u)
-          ∙ sym q
+          ∙ image-piece T false a k last p j l (subst (λ (n : ℕ). j ≤ n) end u)
+          ∙ sym (ap (λ (q : Piece). q .led) e)
 
 -- ---- the ages above 0, of the record
 

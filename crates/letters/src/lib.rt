@@ -26,10 +26,10 @@ fn led_back_in(t: &[u8], letter: u8, x: Stretch) -> Pair
     let mut out = record::no_pair();
     let mut age = x.first;
     while age <= last {
-        let end = image::until(t, letter, age, last);
-        let more = image::image_of(t, true, letter, age, pair);
+        let piece = image::piece_of(t, true, letter, age, last, pair);
+        let more = piece.led;
         out = record::both(out, more);
-        age = end + 1;
+        age = piece.end + 1;
     }
     out
 }
@@ -91,10 +91,10 @@ fn kept_in(t: &[u8], letter: u8, x: Stretch, so_far: Record) -> Record
     let mut out = so_far;
     let mut age = meaning::larger(1, x.first);
     while age <= last {
-        let end = image::until(t, letter, age, last);
-        let kept = image::image_of(t, false, letter, age, pair);
-        out = record::push(out, age, end, kept);
-        age = end + 1;
+        let piece = image::piece_of(t, false, letter, age, last, pair);
+        let kept = piece.led;
+        out = record::push(out, age, piece.end, kept);
+        age = piece.end + 1;
     }
     out
 }

@@ -159,17 +159,18 @@ has-image T r a t m q = (to, from)
 pub image-none : (T : Table) (r : Bool) (a t : ℕ) → image T r a t 0 ≡ 0
 image-none T r a t = empty-mask (image T r a t 0) (λ q h. not-has-zero _ (has-image T r a t 0 q .0 h .held))
 
--- two ages at which the same lines of the letter hold lead to the same states
+-- two ages at which the same lines of that kind and of the letter hold lead to the same states
 pub image-alike : (T : Table) (r : Bool) (a t u m : ℕ)
-    → ((i : ℕ) → i < T .lines → T .line i .letter ≡ a → meetsb (T .line i) t ≡ meetsb (T .line i) u)
+    → ((i : ℕ) → i < T .lines → resets (T .line i) ≡ r → T .line i .letter ≡ a → meetsb (T .line i) t ≡ meetsb (T .line i) u)
     → image T r a t m ≡ image T r a u m
 image-alike T r a t u m alike = ext-has (image T r a t m) (image T r a u m) (λ q. (half t u alike q, half u t back q))
   where
     Alike : ℕ → ℕ → Type 0
-    Alike t u = (i : ℕ) → i < T .lines → T .line i .letter ≡ a → meetsb (T .line i) t ≡ meetsb (T .line i) u
+    Alike t u = (i : ℕ) → i < T .lines → resets (T .line i) ≡ r → T .line i .letter ≡ a
+        → meetsb (T .line i) t ≡ meetsb (T .line i) u
 
     back : Alike u t
-    back i l b = sym (alike i l b)
+    back i l s b = sym (alike i l s b)
 
     half : (t u : ℕ) → Alike t u → (q : ℕ) → Has (image T r a t m) q → Has (image T r a u m) q
     half t u e q h = let d = has-image T r a t m q .0 h in
@@ -179,7 +180,7 @@ image-alike T r a t u m alike = ext-has (image T r a t m) (image T r a u m) (λ 
           listed = d .listed;
           kind = d .kind;
           bears = d .bears;
-          meets = meets-iff l u .0 (subst Is (e (d .index) (d .listed) (d .bears)) (meets-iff l t .1 (d .meets)));
+          meets = meets-iff l u .0 (subst Is (e (d .index) (d .listed) (d .kind) (d .bears)) (meets-iff l t .1 (d .meets)));
           held = d .held;
           enters = d .enters;
         }

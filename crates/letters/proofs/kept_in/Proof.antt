@@ -4,7 +4,7 @@ use mathlib.Core.Path.{_≡_}
 use native.Mathlib.Omega.{arith}
 use borrow.Author.Needs.{needs}
 use Rattle.meaning.specs.Tables.{tableOf}
-use Rattle.image.proofs.Laws.{until-within}
+use Rattle.image.proofs.Laws.{piece-within}
 use Rattle.letters.specs.Letters.{KeptOn}
 use Rattle.letters.proofs.Laws.{kept-none, kept-piece}
 use Rattle.letters.proofs.kept_in.Statement.{statement}
@@ -23,36 +23,32 @@ larger-requires c κs = search needs
 loop-holds : tie.Need-loop-holds Inv-loop μ-loop
 loop-holds c = (search needs, omega (arith, c .larger .ensures), kept-none _ _ _ _ _)
 
-until-requires : tie.Need-until-requires Inv-loop μ-loop
-until-requires c κs = search needs
-
-image-of-requires : tie.Need-image-of-requires Inv-loop μ-loop
-image-of-requires c κs = search needs
+piece-of-requires : tie.Need-piece-of-requires Inv-loop μ-loop
+piece-of-requires c κs = search needs
 
 push-requires : tie.Need-push-requires Inv-loop μ-loop
 push-requires c κs = search needs
 
 add-age : tie.Need-add-age Inv-loop μ-loop
 add-age c =
-    let piece = until-within _ _ _ _ _ (c .before .before .until .ensures) (search needs) in
-    omega (arith, piece .1)
+    let within = piece-within _ _ _ _ _ _ _ (c .before .before .before .piece-of .ensures) (search needs) in
+    omega (arith, within .1)
 
 loop-less : tie.Need-loop-less Inv-loop μ-loop
 loop-less c =
-    let piece = until-within _ _ _ _ _ (c .before .before .until .ensures) (search needs) in
-    omega (arith, piece .0, piece .1)
+    let within = piece-within _ _ _ _ _ _ _ (c .before .before .before .piece-of .ensures) (search needs) in
+    omega (arith, within .0, within .1)
 
 loop-again : tie.Need-loop-again Inv-loop μ-loop
 loop-again c =
-    let a = c .before .before .before .before .before .before .before .before .args in
-    let turn = c .before .before .before .before .loop in
-    let until = c .before .before .until in
-    let piece = until-within _ _ _ _ _ (until .ensures) (search needs) in
-    let kept = c .before .image-of in (
-      omega (arith, piece .0),
-      omega (arith, piece .1),
-      kept-piece _ _ _ _ _ (turn .age) (a .x .last) (until .result) (kept .result) (turn .out) _
-          (turn .inv .2) (turn .inv .0) (search needs) (until .ensures) (kept .ensures) (c .push .ensures),
+    let a = c .before .before .before .before .before .before .before .before .before .args in
+    let turn = c .before .before .before .before .before .loop in
+    let piece = c .before .before .before .piece-of in
+    let within = piece-within _ _ _ _ _ _ _ (piece .ensures) (search needs) in (
+      omega (arith, within .0),
+      omega (arith, within .1),
+      kept-piece _ _ _ _ _ (turn .age) (a .x .last) _ (turn .out) _ (turn .inv .2) (turn .inv .0) (search needs) (piece .ensures)
+          (c .before .push .ensures),
     )
 
 returns : tie.Need-returns Inv-loop μ-loop
@@ -69,8 +65,7 @@ kept-in-spec =
     μ-loop
     larger-requires
     loop-holds
-    until-requires
-    image-of-requires
+    piece-of-requires
     push-requires
     add-age
     loop-less

@@ -7,7 +7,7 @@ use borrow.Author.Needs.{needs}
 use Rattle.meaning.specs.Tables.{tableOf}
 use Rattle.record.specs.Pairs.{together}
 use Rattle.record.specs.Stretches.{stretch}
-use Rattle.image.proofs.Laws.{until-within}
+use Rattle.image.proofs.Laws.{piece-within}
 use Rattle.letters.proofs.Laws.{ledBackAt, led-none, led-piece, led-all}
 use Rattle.letters.proofs.led_back_in.Statement.{statement}
 use Rattle.letters.proofs.led_back_in.Tie as tie
@@ -25,36 +25,32 @@ no-pair-requires c κs = search needs
 loop-holds : tie.Need-loop-holds Inv-loop μ-loop
 loop-holds c = (search needs, search needs, led-none _ _ (c .before .before .before .args .x) _ (c .no-pair .ensures))
 
-until-requires : tie.Need-until-requires Inv-loop μ-loop
-until-requires c κs = search needs
-
-image-of-requires : tie.Need-image-of-requires Inv-loop μ-loop
-image-of-requires c κs = search needs
+piece-of-requires : tie.Need-piece-of-requires Inv-loop μ-loop
+piece-of-requires c κs = search needs
 
 both-requires : tie.Need-both-requires Inv-loop μ-loop
 both-requires c κs = search needs
 
 add-age : tie.Need-add-age Inv-loop μ-loop
 add-age c =
-    let piece = until-within _ _ _ _ _ (c .before .before .until .ensures) (search needs) in
-    omega (arith, piece .1)
+    let within = piece-within _ _ _ _ _ _ _ (c .before .before .before .piece-of .ensures) (search needs) in
+    omega (arith, within .1)
 
 loop-less : tie.Need-loop-less Inv-loop μ-loop
 loop-less c =
-    let piece = until-within _ _ _ _ _ (c .before .before .until .ensures) (search needs) in
-    omega (arith, piece .0, piece .1)
+    let within = piece-within _ _ _ _ _ _ _ (c .before .before .before .piece-of .ensures) (search needs) in
+    omega (arith, within .0, within .1)
 
 loop-again : tie.Need-loop-again Inv-loop μ-loop
 loop-again c =
-    let a = c .before .before .before .before .before .before .before .before .args in
-    let turn = c .before .before .before .before .loop in
-    let until = c .before .before .until in
-    let piece = until-within _ _ _ _ _ (until .ensures) (search needs) in
-    let more = c .before .image-of in (
-      omega (arith, piece .0),
-      omega (arith, piece .1),
-      led-piece _ _ (a .x) (turn .age) (until .result) (turn .out) (more .result) _
-          (turn .inv .0) (search needs) (until .ensures) (more .ensures) (turn .inv .2) (c .both .ensures),
+    let a = c .before .before .before .before .before .before .before .before .before .args in
+    let turn = c .before .before .before .before .before .loop in
+    let piece = c .before .before .before .piece-of in
+    let within = piece-within _ _ _ _ _ _ _ (piece .ensures) (search needs) in (
+      omega (arith, within .0),
+      omega (arith, within .1),
+      led-piece _ _ (a .x) (turn .age) _ (turn .out) _ (turn .inv .0) (search needs) (piece .ensures) (turn .inv .2)
+          (c .before .both .ensures),
     )
 
 returns : tie.Need-returns Inv-loop μ-loop
@@ -71,8 +67,7 @@ led-back-in-spec =
     μ-loop
     no-pair-requires
     loop-holds
-    until-requires
-    image-of-requires
+    piece-of-requires
     both-requires
     add-age
     loop-less
