@@ -6,7 +6,7 @@ use Prim.Native.Nat.{ℕ, zero, suc, _+_, _-_, _/_, _%_, _^_, _≤_, _<_, suc-le
 use mathlib.Core.Path.{_≡_, refl, sym, ap, _∙_, subst}
 use mathlib.Core.Logic.{_↔_, _⊎_, inl, inr, _≢_, ⊎-elim, Iff·rfl}
 use mathlib.Core.Bool.{Bool, true, false, cond, not}
-use native.Mathlib.Nat.{pow-suc, not-suc-le-zero, suc-inj, div-one, pow-succ', div-div-eq-div-mul, div-eq-of-lt, div-lt-iff-lt-mul, lt-of-lt-of-le}
+use native.Mathlib.Nat.{zero-add, suc-add, pow-suc, not-suc-le-zero, suc-inj, div-one, pow-succ', div-div-eq-div-mul, div-eq-of-lt, div-lt-iff-lt-mul, lt-of-lt-of-le}
 use native.Mathlib.Decide.{ℕ-discrete, decLe}
 use native.Mathlib.Numerals.{add-one}
 use native.Mathlib.Omega.{arith}
@@ -168,6 +168,12 @@ past-below n m = (to, div-eq-of-lt)
   where
     to : m / 2 ^ n ≡ 0 → m < 2 ^ n
     to e = omega (arith, div-lt-iff-lt-mul {x = m} {y = 1} (pow-pos n) .0 (omega arith))
+
+-- once n states are shifted out, state i is what state n + i was
+pub has-past : (n m i : ℕ) → Has (m / 2 ^ n) i ↔ Has m (n + i)
+unfolding Has
+has-past zero m i = rw (div-one, zero-add) Iff·rfl
+has-past (suc n) m i = rw (pow-succ', ← div-div-eq-div-mul, suc-add) (has-past n (m / 2) i)
 
 -- a mask of 16 bits passes no n from 16 on
 pub past-none : (n m : ℕ) → m < 2 ^ 16 → 16 ≤ n → pastStates n m ≡ false

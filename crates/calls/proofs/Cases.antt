@@ -1,106 +1,40 @@
--- The definitions at work, by computation: the session of document 01, One session, whole, with room 4 and with room 1, a
--- session of another table, and both sides of the edges of the calls (Both sides of each edge). Assumes nothing.
-use Prim.Native.Nat.{ℕ, zero, suc}
+-- The definitions at work, by computation: records of the session of document 01, One session, whole, with room 4 and with room
+-- 1, and both sides of the edges of the calls (Both sides of each edge). The session's lines, from its bytes on, are worked out in
+-- `session`. Assumes nothing.
+use Prim.Native.Nat.{ℕ}
 use mathlib.Core.Path.{_≡_, refl}
 use mathlib.Core.List.{List, [], _∷_, map}
-use mathlib.Core.Bool.{Bool, true, false}
+use mathlib.Core.Bool.{false}
 use lib.ListN.{set, take}
 use Rattle.base.specs.Masks.{hasb, union, most, all}
 use Rattle.base.specs.Checks.{firstOf}
 use Rattle.table.specs.Table.{headOf, lineAt}
 use Rattle.table.proofs.Cases.{board-table}
 use Rattle.meaning.specs.Tables.{tableOf, horizon, acceptingAt}
-use Rattle.meaning.proofs.Cases.{pump-table}
 use Rattle.meaning.specs.Ages.{image, freshAt, letterAt, passedAt, spanAt, stepAt, acceptsAt}
 use Rattle.faults.specs.Faults.{badCounts, badLength, badMasks, badParts, badAges, lineFault, tableFault}
 use Rattle.record.specs.declared.Pair.{Pair}
 use Rattle.record.specs.declared.Record.{Record}
 use Rattle.record.specs.Pairs.{noPair, startPairs, gapPairs, stepPairs}
-use Rattle.record.specs.Verdicts.{Verdict, says-yes, says-no, unsure, verdictAt, settledAt}
+use Rattle.record.specs.Verdicts.{says-no, unsure, verdictAt, settledAt}
 use Rattle.record.specs.Stretches.{stretch, touches, push, newest}
 use Rattle.record.specs.Records.{blankRecord, inside, pairIn, pairsAt, recordOf, pairOkb, stretchOkb, followsb, blankb, placeOkb, properb}
 use Rattle.record.proofs.Cases.{made}
 use Rattle.calls.specs.declared.Answer.{Answer}
-use Rattle.calls.specs.Calls.{startFault, recordFault, letterFault, spanFault, startOf, letterOf, spanOf, gapOf, Reply, refused, told, verdictOf, settledOf, countOf}
+use Rattle.calls.specs.Calls.{startFault, recordFault, letterFault, spanFault, startOf, letterOf, spanOf, gapOf, refused, told, verdictOf, settledOf, countOf}
 
--- ---- a session
+-- ---- records of the session
 
--- an entry of a session without its ordinal, and the line that it earns: verdict, settled, count, or the number of a refusal
+-- an entry of a session without its ordinal, and the call that it makes
 pub data Entry : Type 0 where
   letter : ℕ → Entry
   span : ℕ → Entry
   gap : Entry
 
-pub data Shown : Type 0 where
-  line : Reply Verdict → Reply Bool → Reply ℕ → Shown
-  number : ℕ → Shown
-
 unfoldable pub call : List ℕ → Record → Entry → Answer
 call b r (letter a) = letterOf b r a
 call b r (span s) = spanOf b r s
 call b r gap = gapOf b r
-
-unfoldable pub shown : List ℕ → Answer → Shown
-shown b x = elim (x .number)
-    [ zero ↦ line (verdictOf b (x .next)) (settledOf b (x .next)) (countOf b (x .next)) | suc n ↦ number (suc n) ]
-
--- each entry by the record that the one before it handed on
-unfoldable pub lines : List ℕ → Answer → List Entry → List Shown
-lines b x [] = shown b x ∷ []
-lines b x (e ∷ es) = shown b x ∷ lines b (call b (x .next) e) es
-
--- refreshed, 5 seconds, look, 1 second, look, a gap, look, 2 seconds, refreshed, a span of 0, a letter that is none
-unfoldable pub entries : List Entry
-entries = letter 0 ∷ span 5 ∷ letter 1 ∷ span 1 ∷ letter 1 ∷ gap ∷ letter 1 ∷ span 2 ∷ letter 0 ∷ span 0 ∷ letter 2 ∷ []
-
-unfoldable pub settled : Verdict → ℕ → Shown
-settled v n = line (told v) (told true) (told n)
-
-unfoldable pub left-open : Verdict → ℕ → Shown
-left-open v n = line (told v) (told false) (told n)
-
--- its twelve lines; and with room 1, where "entry 3 answers `3 refused 11`" and the session goes on
-pub the-session :
-    (lines board-table (startOf board-table 4) entries
-    ≡ settled says-no 1 ∷ settled says-yes 1 ∷ settled says-yes 1 ∷ settled says-yes 2 ∷ settled says-yes 1 ∷ settled says-no 1
-    ∷ left-open unsure 1 ∷ left-open unsure 2 ∷ left-open unsure 2 ∷ settled says-yes 1 ∷ number 10 ∷ number 9 ∷ [])
-    × (lines board-table (startOf board-table 1) entries
-    ≡ settled says-no 1 ∷ settled says-yes 1 ∷ settled says-yes 1 ∷ number 11 ∷ settled says-yes 0 ∷ settled says-no 1
-    ∷ left-open unsure 1 ∷ number 11 ∷ left-open unsure 1 ∷ left-open unsure 1 ∷ number 10 ∷ number 9 ∷ [])
-unfolding lines shown call entries settled left-open startFault recordFault letterFault spanFault startOf letterOf
-    spanOf gapOf verdictOf settledOf countOf inside pairIn pairsAt recordOf pairOkb stretchOkb followsb blankb placeOkb
-    properb touches push newest startPairs gapPairs stepPairs verdictAt settledAt badCounts badLength badMasks
-    badParts badAges lineFault tableFault image freshAt letterAt passedAt spanAt stepAt acceptsAt tableOf horizon acceptingAt
-    headOf lineAt hasb union most all firstOf
-the-session = (refl, refl)
-
--- ---- a session of the other table: examples/pump.hex, whose lines the second program prints
-
--- 1 second, start, 1 second, check, 2 seconds, start, 3 seconds, check, start, 4 seconds, check, a gap, check, 3 seconds, check,
--- start, 7 seconds, check, start, check
-unfoldable pub pumped : List Entry
-pumped =
-    span 1 ∷ letter 0 ∷ span 1 ∷ letter 1 ∷ span 2 ∷ letter 0 ∷ span 3 ∷ letter 1 ∷ letter 0 ∷ span 4 ∷ letter 1
-    ∷ gap ∷ letter 1 ∷ span 3 ∷ letter 1 ∷ letter 0 ∷ span 7 ∷ letter 1 ∷ letter 0 ∷ letter 1 ∷ []
-
--- the whole of it; and with room 2, where entry 8 is refused and the session goes on
-pub the-pump :
-    (lines pump-table (startOf pump-table 4) pumped
-    ≡ settled says-no 1 ∷ settled says-no 1 ∷ settled says-no 1 ∷ settled says-no 1 ∷ settled says-no 1 ∷ settled says-no 1
-    ∷ settled says-yes 2 ∷ settled says-yes 2 ∷ settled says-yes 3 ∷ settled says-yes 3 ∷ settled says-yes 1 ∷ settled says-yes 2
-    ∷ left-open unsure 1 ∷ left-open unsure 2 ∷ left-open unsure 2 ∷ settled says-yes 2 ∷ settled says-yes 2 ∷ settled says-yes 0
-    ∷ settled says-yes 1 ∷ settled says-no 1 ∷ settled says-no 1 ∷ [])
-    × (lines pump-table (startOf pump-table 2) (take 10 pumped)
-    ≡ settled says-no 1 ∷ settled says-no 1 ∷ settled says-no 1 ∷ settled says-no 1 ∷ settled says-no 1 ∷ settled says-no 1
-    ∷ settled says-yes 2 ∷ settled says-yes 2 ∷ number 11 ∷ settled says-yes 2 ∷ settled says-yes 1 ∷ [])
-unfolding lines shown call pumped settled left-open startFault recordFault letterFault spanFault startOf letterOf
-    spanOf gapOf verdictOf settledOf countOf inside pairIn pairsAt recordOf pairOkb stretchOkb followsb blankb
-    placeOkb properb touches push newest startPairs gapPairs stepPairs verdictAt settledAt badCounts badLength
-    badMasks badParts badAges lineFault tableFault image freshAt letterAt passedAt spanAt stepAt acceptsAt tableOf
-    horizon acceptingAt headOf lineAt hasb union most all firstOf
-the-pump = (refl, refl)
-
--- ---- records of the session
 
 -- the answer to the last of the entries, in the order of their coming
 unfoldable pub after : List ℕ → Answer → List Entry → Answer

@@ -21,18 +21,14 @@ use Rattle.faults.specs.Sound.{Sound}
 use Rattle.faults.proofs.Laws.{sound-iff, sound-closed}
 use Rattle.record.specs.declared.Record.{Record}
 use Rattle.record.specs.Pairs.{Pairs, startPairs, gapPairs}
-use Rattle.record.specs.Records.{blankRecord, recordOf, Proper, properb}
+use Rattle.record.specs.Records.{blankRecord, recordOf, properb}
 use Rattle.record.proofs.Records.{count-used, recordOf-whole, recordOf-pairs, recordOf-proper, proper-pairs}
 use Rattle.record.proofs.Properness.{proper-iff}
 use Rattle.record.proofs.Pairs.{Ok, step-ok, start-ok, gap-ok}
 use Rattle.record.proofs.Counts.{start-count, gap-count, span-count}
-use Rattle.calls.specs.Calls.{pairsOf, holding, needed, stepped, startFault, recordFault, letterFault, spanFault, answer, startOf, letterOf, spanOf, gapOf, told, replyNumber, reply, countOf}
+use Rattle.calls.specs.Calls.{pairsOf, holding, needed, stepped, ProperFor, startFault, recordFault, letterFault, spanFault, answer, startOf, letterOf, spanOf, gapOf, told, replyNumber, reply, countOf}
 
 -- ---- when a call is accepted
-
--- the record is proper for the table that is handed in with it
-abbrev pub ProperFor : List ℕ → Record → Type 0
-ProperFor b r = Proper (horizon (tableOf b)) (tableOf b .states) r
 
 module _ (b : List ℕ) where
   table-passes : Passes (tableFault b) (Sound b)
@@ -107,6 +103,12 @@ module _ (b : List ℕ) where
   pub gap-refused : (r : Record) → gapOf b r .number ≢ 0 → gapOf b r .next ≡ r
   unfolding gapOf
   gap-refused r = answer-refused (recordFault b r) r (holding b (r .room) (gapPairs (tableOf b)))
+
+  -- an accepted letter's record is the one that holds the pairs after it
+  pub letter-next : (r : Record) (a : ℕ) → letterOf b r a .number ≡ 0
+      → letterOf b r a .next ≡ holding b (r .room) (stepped b r (letter a))
+  unfolding letterOf
+  letter-next r a z = answer-accepted (letterFault b r a) r _ (sym (answer-number (letterFault b r a) r _) ∙ z)
 
   -- the number that a call carries is that of its first failed check, 0 where none failed
   pub call-numbers : (room : ℕ) (r : Record) (a s : ℕ)

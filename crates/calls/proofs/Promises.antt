@@ -29,7 +29,7 @@ abbrev Told : {A : Type 0} → Reply A → Type 0
 Told (refused n) = ⊥
 Told (told a) = Unit {0}
 
-not-both : {A : Type 0} {n : ℕ} {a : A} → ¬ (_≡_ {A = Reply A} (refused n) (told a))
+pub not-both : {A : Type 0} {n : ℕ} {a : A} → ¬ (_≡_ {A = Reply A} (refused n) (told a))
 not-both e = subst Told (sym e) tt
 
 same-number : {A : Type 0} {m n : ℕ} → _≡_ {A = Reply A} (refused m) (refused n) → m ≡ n
@@ -39,24 +39,24 @@ abbrev valueOr : {A : Type 0} → A → Reply A → A
 valueOr d (refused n) = d
 valueOr d (told a) = a
 
-same-value : {A : Type 0} {a b : A} → told a ≡ told b → a ≡ b
+pub same-value : {A : Type 0} {a b : A} → told a ≡ told b → a ≡ b
 same-value {A} {a} {b} e = ap (valueOr a) e
 
 -- ---- so each case of an answer stands for one reply alone
 
-verdictReply-one : (x y : VerdictReply) → verdictReply x ≡ verdictReply y → x ≡ y
+pub verdictReply-one : (x y : VerdictReply) → verdictReply x ≡ verdictReply y → x ≡ y
 verdictReply-one (VerdictCases.Refused m) (VerdictCases.Refused n) e = ap VerdictCases.Refused (same-number e)
 verdictReply-one (VerdictCases.Refused m) (VerdictCases.Told v) e = absurd (not-both e)
 verdictReply-one (VerdictCases.Told v) (VerdictCases.Refused n) e = absurd (not-both (sym e))
 verdictReply-one (VerdictCases.Told v) (VerdictCases.Told w) e = ap VerdictCases.Told (verdictCase-one v w (same-value e))
 
-settledReply-one : (x y : SettledReply) → settledReply x ≡ settledReply y → x ≡ y
+pub settledReply-one : (x y : SettledReply) → settledReply x ≡ settledReply y → x ≡ y
 settledReply-one (SettledCases.Refused m) (SettledCases.Refused n) e = ap SettledCases.Refused (same-number e)
 settledReply-one (SettledCases.Refused m) (SettledCases.Told v) e = absurd (not-both e)
 settledReply-one (SettledCases.Told v) (SettledCases.Refused n) e = absurd (not-both (sym e))
 settledReply-one (SettledCases.Told v) (SettledCases.Told w) e = ap SettledCases.Told (same-value e)
 
-countReply-one : (x y : CountReply) → countReply x ≡ countReply y → x ≡ y
+pub countReply-one : (x y : CountReply) → countReply x ≡ countReply y → x ≡ y
 countReply-one (CountCases.Refused m) (CountCases.Refused n) e = ap CountCases.Refused (same-number e)
 countReply-one (CountCases.Refused m) (CountCases.Told v) e = absurd (not-both e)
 countReply-one (CountCases.Told v) (CountCases.Refused n) e = absurd (not-both (sym e))

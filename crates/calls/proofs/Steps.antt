@@ -25,8 +25,8 @@ use Rattle.image.specs.Known.{Known}
 use Rattle.spans.specs.Spans.{spanPairs}
 use Rattle.spans.proofs.Laws.{span-stepped}
 use Rattle.calls.specs.declared.Answer.{Answer}
-use Rattle.calls.specs.Calls.{holding, needed, stepped, startFault, recordFault, letterFault, spanFault, answer, startOf, letterOf, spanOf, gapOf, accepted, refusal, letterStep, spanStep, gapStep, checked, refused, told, reply, pairsOf, verdictOf, settledOf, countOf}
-use Rattle.calls.proofs.Laws.{ProperFor, recordFault-iff}
+use Rattle.calls.specs.Calls.{holding, needed, stepped, ProperFor, startFault, recordFault, letterFault, spanFault, answer, startOf, letterOf, spanOf, gapOf, accepted, refusal, letterStep, spanStep, gapStep, checked, refused, told, reply, pairsOf, verdictOf, settledOf, countOf}
+use Rattle.calls.proofs.Laws.{recordFault-iff}
 
 -- ---- each call is its checks and its step
 

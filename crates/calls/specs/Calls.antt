@@ -14,7 +14,7 @@ use Rattle.record.specs.declared.Record.{Record}
 use Rattle.record.specs.Pairs.{Pairs, startPairs, gapPairs, stepPairs}
 use Rattle.record.specs.Verdicts.{Verdict, verdictAt, settledAt}
 use Rattle.record.specs.Stretches.{stretchesOf}
-use Rattle.record.specs.Records.{blankRecord, pairsAt, recordOf, properb}
+use Rattle.record.specs.Records.{blankRecord, pairsAt, recordOf, Proper, properb}
 use Rattle.verdicts.specs.Said.{verdictCase}
 use Rattle.calls.specs.declared.Answer.{Answer}
 use Rattle.calls.specs.declared.VerdictReply.{VerdictReply}
@@ -38,6 +38,10 @@ holding b room f = recordOf room (horizon (tableOf b)) f
 abbrev pub needed : List ℕ → Pairs → ℕ
 needed b f = length (stretchesOf (horizon (tableOf b)) f)
 
+-- the record is proper for the table that is handed in with it
+abbrev pub ProperFor : List ℕ → Record → Type 0
+ProperFor b r = Proper (horizon (tableOf b)) (tableOf b .states) r
+
 -- ---- the checks of each call, in their order
 
 -- 1 to 7, then 8: "room outside 1 to 64 at a start"
@@ -53,20 +57,20 @@ abbrev pub stepped : List ℕ → Record → Symbol → Pairs
 stepped b r x = stepPairs (tableOf b) x (pairsOf b r)
 
 -- a letter's own checks, 9: "letter m or above", and 11: "the count after the letter would exceed the room"
-abbrev pub letterChecks : List ℕ → Record → ℕ → ℕ
-letterChecks b r a = 9 if leb (tableOf b .letters) a then 11 if ltb (r .room) (needed b (stepped b r (letter a)))
+abbrev pub letterStepFault : List ℕ → Record → ℕ → ℕ
+letterStepFault b r a = 9 if leb (tableOf b .letters) a then 11 if ltb (r .room) (needed b (stepped b r (letter a)))
 
 -- a span's own check, 10: "span 0 or above 2,147,483,647"
-abbrev pub spanChecks : ℕ → ℕ
-spanChecks s = 10 if (eqb s 0 || ltb 2147483647 s)
+abbrev pub spanStepFault : ℕ → ℕ
+spanStepFault s = 10 if (eqb s 0 || ltb 2147483647 s)
 
 -- 1 to 8, then 9 and 11
 unfoldable pub letterFault : List ℕ → Record → ℕ → ℕ
-letterFault b r a = recordFault b r then letterChecks b r a
+letterFault b r a = recordFault b r then letterStepFault b r a
 
 -- 1 to 8, then 10
 unfoldable pub spanFault : List ℕ → Record → ℕ → ℕ
-spanFault b r s = recordFault b r then spanChecks s
+spanFault b r s = recordFault b r then spanStepFault s
 
 -- ---- what a call answers
 
@@ -103,10 +107,10 @@ gapOf b r = answer (recordFault b r) r (holding b (r .room) (gapPairs (tableOf b
 -- `gap-call`)
 
 unfoldable pub letterStep : List ℕ → Record → ℕ → Answer
-letterStep b r a = answer (letterChecks b r a) r (holding b (r .room) (stepped b r (letter a)))
+letterStep b r a = answer (letterStepFault b r a) r (holding b (r .room) (stepped b r (letter a)))
 
 unfoldable pub spanStep : List ℕ → Record → ℕ → Answer
-spanStep b r s = answer (spanChecks s) r (holding b (r .room) (stepped b r (span s)))
+spanStep b r s = answer (spanStepFault s) r (holding b (r .room) (stepped b r (span s)))
 
 unfoldable pub gapStep : List ℕ → Record → Answer
 gapStep b r = accepted (holding b (r .room) (gapPairs (tableOf b)))

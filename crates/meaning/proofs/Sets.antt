@@ -1,13 +1,13 @@
 -- Symbols keep inclusion (`after-mono`), so that whatever set stood at a gap's end, the set after it lies between that of the
 -- empty set and that of all configurations (`after-between`). Hence what demand 3 asks of every set is asked of these two:
--- `yes-iff`, `no-iff`, `settled-iff`. A set over the n states stays one (`step-over`). Assumes nothing.
+-- `yes-iff`, `no-iff`, `settled-iff`. A set over the n states stays one (`step-over`, `after-closed`). Assumes nothing.
 use Prim.Native.Nat.{ℕ, _^_, _<_}
-use mathlib.Core.Path.{subst}
+use mathlib.Core.Path.{_≡_, refl, ap, subst}
 use mathlib.Core.Logic.{_↔_, inl, inr, Iff·trans, Iff·symm}
 use Rattle.base.proofs.Masks.{has-below}
 use Rattle.meaning.specs.Tables.{Table}
-use Rattle.meaning.specs.Runs.{Symbol, letter, span, Word, empty, _▷_, Step}
-use Rattle.meaning.specs.Sets.{Confs, Within, Taken, step, after, Accepts, Nothing, Everything, Over, Beyond, Same}
+use Rattle.meaning.specs.Runs.{Symbol, letter, span, Word, empty, _▷_, _⧺_, Step}
+use Rattle.meaning.specs.Sets.{Confs, Within, Taken, step, after, Accepts, Initial, Nothing, Everything, Over, Beyond, Same}
 
 -- the same, the other way round
 pub same-sym : {H : ℕ} {A B : Confs} → Same H A B → Same H B A
@@ -95,3 +95,18 @@ unfolding step Step
 step-over T c (letter a) S o q u (inl (p, t, h, s)) = subst (λ (q : ℕ). q < T .states) (s .enters) (c .to (s .index) (s .listed))
 step-over T c (letter a) S o q u (inr h) = has-below (T .states) (T .standing) q (c .standing) (h .1)
 step-over T c (span s) S o q u (p, t, h, (same, aged)) = subst (λ (q : ℕ). q < T .states) same (o p t h)
+
+pub after-closed : (T : Table) → Closed T → (S : Confs) → Over T S → (w : Word) → Over T (after T S w)
+unfolding after
+after-closed T c S o empty = o
+after-closed T c S o (w ▷ x) = step-over T c x (after T S w) (after-closed T c S o w)
+
+pub initial-over : (T : Table) → Closed T → Over T (Initial T)
+initial-over T c q t h = has-below (T .states) (T .initial) q (c .initial) (h .1)
+
+-- ---- one word behind another
+
+pub after-joined : (T : Table) (S : Confs) (u w : Word) → after T S (u ⧺ w) ≡ after T (after T S u) w
+unfolding after
+after-joined T S u empty = refl
+after-joined T S u (w ▷ x) = ap (step T x) (after-joined T S u w)

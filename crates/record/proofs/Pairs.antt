@@ -1,5 +1,5 @@
 -- Pairs by age mean two sets of configurations, the sure and the possible (`MeanBoth`): at a start, at a gap, and after
--- every symbol (`start-means`, `gap-means`, `steps-mean`, `after-mean`). Such pairs are proper ones (`means-ok`), and so a
+-- every symbol (`start-means`, `gap-means`, `steps-mean`). Such pairs are proper ones (`means-ok`), and so a
 -- start, a gap and every symbol leave proper ones (`start-ok`, `gap-ok`, `step-ok`). Assumes nothing.
 use Prim.Native.Nat.{ℕ, suc, _≤_}
 use mathlib.Core.Path.{_≡_, sym, subst}
@@ -8,13 +8,13 @@ use native.Mathlib.Omega.{arith}
 use Rattle.base.specs.Masks.{Has}
 use Rattle.base.proofs.Masks.{has-below, below-has}
 use Rattle.meaning.specs.Tables.{Table, horizon}
-use Rattle.meaning.specs.Runs.{Symbol, Word, empty, _▷_}
-use Rattle.meaning.specs.Sets.{Confs, Within, step, after, Initial, Nothing, Everything, Over}
+use Rattle.meaning.specs.Runs.{Symbol}
+use Rattle.meaning.specs.Sets.{Confs, Within, step, Initial, Nothing, Everything, Over}
 use Rattle.meaning.specs.Ages.{clip, Clipped, Means}
-use Rattle.meaning.proofs.Sets.{step-mono, Closed, step-over}
+use Rattle.meaning.proofs.Sets.{step-mono, Closed, step-over, initial-over}
 use Rattle.meaning.proofs.Ages.{step-means, initial-means, nothing-means, everything-means}
 use Rattle.record.specs.declared.Pair.{Pair}
-use Rattle.record.specs.Pairs.{Pairs, sures, possibles, startPairs, gapPairs, stepPairs, afterPairs}
+use Rattle.record.specs.Pairs.{Pairs, sures, possibles, startPairs, gapPairs, stepPairs}
 use Rattle.record.specs.Records.{PairOk}
 
 -- the pairs f mean the sure set A and the possible set B, of which A is part
@@ -57,12 +57,6 @@ module _ (T : Table) where
     possible = step-means T x (possibles f) B (s .possible);
     within = step-mono T x A B (s .within);
   }
-
-  pub after-mean : (f : Pairs) (A B : Confs) → MeanBoth T f A B
-      → (w : Word) → MeanBoth T (afterPairs T f w) (after T A w) (after T B w)
-  unfolding afterPairs after
-  after-mean f A B s empty = s
-  after-mean f A B s (w ▷ x) = steps-mean x (afterPairs T f w) (after T A w) (after T B w) (after-mean f A B s w)
 
   -- every pair of f is a proper one
   abbrev pub Ok : Pairs → Type 0
@@ -107,8 +101,7 @@ module _ (T : Table) where
       over q t h = has-below (T .states) (f (clip (horizon T) t) .possible) q (ok (clip (horizon T) t) (omega arith) .small) h
 
   pub start-ok : Closed T → Ok (startPairs T)
-  start-ok c = means-ok (startPairs T) (Initial T) (Initial T) start-means
-      (λ q t h. has-below (T .states) (T .initial) q (c .initial) (h .1))
+  start-ok c = means-ok (startPairs T) (Initial T) (Initial T) start-means (initial-over T c)
 
   pub gap-ok : Ok (gapPairs T)
   gap-ok = means-ok (gapPairs T) Nothing (Everything T) gap-means (λ q t h. h)

@@ -1,6 +1,6 @@
 -- What the verdict and `settled` say of the two sets that the pairs mean (`verdict-yes`, `verdict-no`, `settled-same`).
--- Hence demand 2, for what has become of a start's pairs (`start-yes`, `start-no`), and demand 3, for what has become of a
--- gap's, said of every set that may have stood at its end (`gap-yes`, `gap-no`, `gap-unsure`, `gap-differ`,
+-- Hence demand 2, of pairs that mean what has become of a start (`start-yes`, `start-no`), and demand 3, of those that mean
+-- what has become of a gap, said of every set that may have stood at its end (`gap-yes`, `gap-no`, `gap-unsure`, `gap-differ`,
 -- `gap-settled`). Assumes nothing.
 use Prim.Native.Nat.{ℕ}
 use mathlib.Core.Path.{_≡_, refl, ap}
@@ -16,9 +16,9 @@ use Rattle.meaning.specs.Ages.{ages, acceptsAt}
 use Rattle.meaning.proofs.Runs.{accepted-iff}
 use Rattle.meaning.proofs.Sets.{accepts-mono, after-between, yes-iff, no-iff, settled-iff}
 use Rattle.meaning.proofs.Ages.{accepts-means, settled-means}
-use Rattle.record.specs.Pairs.{Pairs, sures, possibles, startPairs, gapPairs, afterPairs}
+use Rattle.record.specs.Pairs.{Pairs, sures, possibles}
 use Rattle.record.specs.Verdicts.{Verdict, says-yes, says-no, unsure, decide, verdictAt, settledAt}
-use Rattle.record.proofs.Pairs.{MeanBoth, start-means, gap-means, after-mean}
+use Rattle.record.proofs.Pairs.{MeanBoth}
 
 -- the three verdicts are three
 code : Verdict → ℕ
@@ -85,62 +85,63 @@ module _ (T : Table) (f : Pairs) (A B : Confs) (s : MeanBoth T f A B) where
       one : (k : ℕ) → Is (eqb (f k .sure) (f k .possible)) ↔ (f k .sure ≡ f k .possible)
       one k = eqb-iff (f k .sure) (f k .possible)
 
-module _ (T : Table) (w : Word) where
-  -- ---- demand 2: with no gap since the start
+-- ---- demand 2: with no gap since the start
 
-  abbrev pub sinceStart : Pairs
-  sinceStart = afterPairs T (startPairs T) w
+-- the pairs f are what has become of a start after the word w: with nothing lost the sure set and the possible one are the same
+abbrev pub SinceStart : Table → Word → Pairs → Type 0
+SinceStart T w f = MeanBoth T f (after T (Initial T) w) (after T (Initial T) w)
 
+module _ (T : Table) (w : Word) (f : Pairs) (s : SinceStart T w f) where
   abbrev startSet : Confs
   startSet = after T (Initial T) w
 
-  after-start : MeanBoth T sinceStart startSet startSet
-  after-start = after-mean T (startPairs T) (Initial T) (Initial T) (start-means T) w
-
   -- yes exactly when some accepting run exists over the symbols
-  pub start-yes : (verdictAt T sinceStart ≡ says-yes) ↔ Accepted T w
-  start-yes = Iff·trans (verdict-yes T sinceStart startSet startSet after-start) (Iff·symm (accepted-iff T w))
+  pub start-yes : (verdictAt T f ≡ says-yes) ↔ Accepted T w
+  start-yes = Iff·trans (verdict-yes T f startSet startSet s) (Iff·symm (accepted-iff T w))
 
   -- otherwise no
-  pub start-no : (verdictAt T sinceStart ≡ says-no) ↔ (¬ Accepted T w)
-  start-no = Iff·trans (verdict-no T sinceStart startSet startSet after-start) (Iff·not (Iff·symm (accepted-iff T w)))
+  pub start-no : (verdictAt T f ≡ says-no) ↔ (¬ Accepted T w)
+  start-no = Iff·trans (verdict-no T f startSet startSet s) (Iff·not (Iff·symm (accepted-iff T w)))
 
   -- never unsure
-  pub start-sure : verdictAt T sinceStart ≢ unsure
-  start-sure e = let u = unsure-iff (verdictAt T sinceStart) .0 e in u .1 (start-no .1 (λ h. u .0 (start-yes .1 h)))
+  pub start-sure : verdictAt T f ≢ unsure
+  start-sure e = let u = unsure-iff (verdictAt T f) .0 e in u .1 (start-no .1 (λ h. u .0 (start-yes .1 h)))
 
-  -- ---- demand 3: after a gap, for every set S of configurations that may have stood at its end, the empty one too
+  -- and always settled
+  pub start-settled : Is (settledAt T f)
+  start-settled = settled-same T f startSet startSet s .1
+      (record { low = λ q t l. ((λ h. h), λ h. h); beyond = λ q. ((λ h. h), λ h. h) })
 
-  abbrev pub sinceGap : Pairs
-  sinceGap = afterPairs T (gapPairs T) w
+-- ---- demand 3: after a gap, for every set S of configurations that may have stood at its end, the empty one too
 
-  -- the two sets between which those of all sets S lie
+-- the pairs f are what has become of a gap after the word w: between the two sets lie those that all sets S have become
+abbrev pub SinceGap : Table → Word → Pairs → Type 0
+SinceGap T w f = MeanBoth T f (after T Nothing w) (after T (Everything T) w)
+
+module _ (T : Table) (w : Word) (f : Pairs) (s : SinceGap T w f) where
   abbrev least : Confs
   least = after T Nothing w
 
   abbrev greatest : Confs
   greatest = after T (Everything T) w
 
-  after-gap : MeanBoth T sinceGap least greatest
-  after-gap = after-mean T (gapPairs T) Nothing (Everything T) (gap-means T) w
-
   -- yes exactly if the symbols since lead to acceptance from every such set
-  pub gap-yes : (verdictAt T sinceGap ≡ says-yes) ↔ ((S : Confs) → Over T S → Accepts T (after T S w))
-  gap-yes = Iff·trans (verdict-yes T sinceGap least greatest after-gap) (Iff·symm (yes-iff T w))
+  pub gap-yes : (verdictAt T f ≡ says-yes) ↔ ((S : Confs) → Over T S → Accepts T (after T S w))
+  gap-yes = Iff·trans (verdict-yes T f least greatest s) (Iff·symm (yes-iff T w))
 
   -- no exactly if from none
-  pub gap-no : (verdictAt T sinceGap ≡ says-no) ↔ ((S : Confs) → Over T S → ¬ Accepts T (after T S w))
-  gap-no = Iff·trans (verdict-no T sinceGap least greatest after-gap) (Iff·symm (no-iff T w))
+  pub gap-no : (verdictAt T f ≡ says-no) ↔ ((S : Confs) → Over T S → ¬ Accepts T (after T S w))
+  gap-no = Iff·trans (verdict-no T f least greatest s) (Iff·symm (no-iff T w))
 
   -- unsure otherwise
-  pub gap-unsure : (verdictAt T sinceGap ≡ unsure)
+  pub gap-unsure : (verdictAt T f ≡ unsure)
       ↔ ((¬ ((S : Confs) → Over T S → Accepts T (after T S w))) × (¬ ((S : Confs) → Over T S → ¬ Accepts T (after T S w))))
-  gap-unsure = Iff·trans (unsure-iff (verdictAt T sinceGap)) (Iff·and (Iff·not gap-yes) (Iff·not gap-no))
+  gap-unsure = Iff·trans (unsure-iff (verdictAt T f)) (Iff·and (Iff·not gap-yes) (Iff·not gap-no))
 
   -- and then it goes by the set: one leads to acceptance and one does not
-  pub gap-differ : (verdictAt T sinceGap ≡ unsure)
+  pub gap-differ : (verdictAt T f ≡ unsure)
       ↔ (((S : Confs) × Over T S × Accepts T (after T S w)) × ((S : Confs) × Over T S × (¬ Accepts T (after T S w))))
-  gap-differ = Iff·trans (verdict-unsure T sinceGap least greatest after-gap) (to, from)
+  gap-differ = Iff·trans (verdict-unsure T f least greatest s) (to, from)
     where
       to : (¬ Accepts T least) × Accepts T greatest
           → ((S : Confs) × Over T S × Accepts T (after T S w)) × ((S : Confs) × Over T S × (¬ Accepts T (after T S w)))
@@ -148,15 +149,10 @@ module _ (T : Table) (w : Word) where
 
       from : ((S : Confs) × Over T S × Accepts T (after T S w)) × ((S : Confs) × Over T S × (¬ Accepts T (after T S w)))
           → (¬ Accepts T least) × Accepts T greatest
-      from ((R, r, a), (S, s, n)) =
-          ((λ h. n (yes-iff T w .1 h S s)), accepts-mono T (after T R w) greatest (after-between T R r w .1) a)
+      from ((R, r, a), (S, o, n)) =
+          ((λ h. n (yes-iff T w .1 h S o)), accepts-mono T (after T R w) greatest (after-between T R r w .1) a)
 
   -- settled exactly if all those sets led to one and the same set, ages beyond the horizon counted as one
-  pub gap-settled : Is (settledAt T sinceGap)
+  pub gap-settled : Is (settledAt T f)
       ↔ ((R S : Confs) → Over T R → Over T S → Same (horizon T) (after T R w) (after T S w))
-  gap-settled = Iff·trans (settled-same T sinceGap least greatest after-gap) (Iff·symm (settled-iff T (horizon T) w))
-
-  -- with no gap the two sets are one: always settled
-  pub start-settled : Is (settledAt T sinceStart)
-  start-settled = settled-same T sinceStart startSet startSet after-start .1
-      (record { low = λ q t l. ((λ h. h), λ h. h); beyond = λ q. ((λ h. h), λ h. h) })
+  gap-settled = Iff·trans (settled-same T f least greatest s) (Iff·symm (settled-iff T (horizon T) w))

@@ -3,7 +3,7 @@
 use Prim.Native.Nat.{ℕ, zero, suc}
 use lib.Bits.{bitOr}
 use Rattle.meaning.specs.Tables.{Table}
-use Rattle.meaning.specs.Runs.{Symbol, Word, empty, _▷_}
+use Rattle.meaning.specs.Runs.{Symbol}
 use Rattle.meaning.specs.Ages.{stepAt, initialAt, nothingAt, everythingAt}
 use Rattle.record.specs.declared.Pair.{Pair}
 
@@ -42,8 +42,3 @@ gapPairs T k = record { sure = nothingAt k; possible = everythingAt T k }
 -- "Letters and spans step both."
 unfoldable pub stepPairs : Table → Symbol → Pairs → Pairs
 stepPairs T x f k = record { sure = stepAt T x (sures f) k; possible = stepAt T x (possibles f) k }
-
--- the pairs that f has become after the word
-unfoldable pub afterPairs : Table → Pairs → Word → Pairs
-afterPairs T f empty = f
-afterPairs T f (w ▷ x) = stepPairs T x (afterPairs T f w)

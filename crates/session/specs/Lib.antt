@@ -1,2 +1,3 @@
 pub mod Sessions
 pub mod Ready
+pub mod Worked

@@ -2,6 +2,8 @@
 -- ordinal (0 for the start), the verdict, `settled` or `open`, and the count, with one space between and a newline after."
 -- Assumes nothing: these are definitions.
 use Prim.Native.Nat.{ℕ, _+_}
+use Prim.Native.Char.{code}
+use Prim.Native.String.{String, [] as no-text, _∷_ as _and-then_}
 use mathlib.Core.Path.{_≡_}
 use mathlib.Core.List.{List, [], _∷_, _++_}
 use mathlib.Core.Bool.{Bool, cond}
@@ -9,6 +11,11 @@ use lib.Dec.{ltb}
 use lib.ListN.{length, take}
 use Rattle.io.specs.Digits.{digits}
 use Rattle.record.specs.Verdicts.{Verdict, says-yes, says-no, unsure}
+
+-- the bytes of a text of ASCII characters
+abbrev pub ascii : String → List ℕ
+ascii no-text = []
+ascii (c and-then s) = code c ∷ ascii s
 
 -- how many digits a number below 100,000 has; an ordinal is below 16,384 and a count or a number of a refusal below 256
 abbrev pub places : ℕ → ℕ
@@ -24,20 +31,19 @@ space = 32
 abbrev pub newline : ℕ
 newline = 10
 
--- "The verdict is written as `yes`, `no` or `unsure`.": y is 121, e 101, s 115; n 110, o 111; u 117, r 114
+-- "The verdict is written as `yes`, `no` or `unsure`."
 abbrev pub verdictText : Verdict → List ℕ
-verdictText says-yes = 121 ∷ 101 ∷ 115 ∷ []
-verdictText says-no = 110 ∷ 111 ∷ []
-verdictText unsure = 117 ∷ 110 ∷ 115 ∷ 117 ∷ 114 ∷ 101 ∷ []
+verdictText says-yes = ascii "yes"
+verdictText says-no = ascii "no"
+verdictText unsure = ascii "unsure"
 
--- `settled` or `open`: t is 116, l 108, d 100, p 112
+-- "`settled` or `open`"
 abbrev pub settledText : Bool → List ℕ
-settledText same =
-    cond same (115 ∷ 101 ∷ 116 ∷ 116 ∷ 108 ∷ 101 ∷ 100 ∷ []) (111 ∷ 112 ∷ 101 ∷ 110 ∷ [])
+settledText same = cond same (ascii "settled") (ascii "open")
 
--- `refused`: f is 102
+-- "A refusal is the ordinal, `refused` and the number."
 abbrev pub refusedText : List ℕ
-refusedText = 114 ∷ 101 ∷ 102 ∷ 117 ∷ 115 ∷ 101 ∷ 100 ∷ []
+refusedText = ascii "refused"
 
 -- a word of a line that is not its first: one space and the word
 abbrev pub verdictWord : Verdict → List ℕ
