@@ -1,5 +1,5 @@
--- Each number alone: it is given in its case and in no other (`each-number`). Of a call's checks, one alone bears it, or those of
--- the lines do, and the checks before and behind do not (`first-in`, `given`). Assumes nothing.
+-- Each number alone: it is given in its case and in no other (`each-number`). Of a call's checks one alone bears it, or those
+-- of the lines do, and the checks before and behind do not (`first-in`, `given`). Assumes nothing.
 use Prim.Native.Nat.{ℕ, zero, suc, _≤_, _<_}
 use mathlib.Core.Path.{_≡_, refl, sym, subst}
 use mathlib.Core.Logic.{_↔_, _≢_, _⊎_, inl, inr, Iff·trans}

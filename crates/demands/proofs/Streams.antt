@@ -1,5 +1,5 @@
--- What the record of a stream is (`stream-kept`): proper for the table, with 64 places, and its pairs mean the two sets that the
--- start, or the last gap, has become after the symbols accepted since. Assumes nothing.
+-- What the record of a stream is (`stream-kept`): proper for the table, with 64 places, and its pairs mean the two sets that
+-- the start, or the last gap, has become after the symbols accepted since. Assumes nothing.
 use Prim.Native.Nat.{ℕ, zero, suc}
 use mathlib.Core.Path.{_≡_, refl, sym, _∙_, subst}
 use mathlib.Core.Logic.{_≢_}
