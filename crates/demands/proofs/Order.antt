@@ -1,7 +1,7 @@
--- The number that checks give is that of the first that fails. Checks are put together as the numbers are: `or` for `||`, `one`
--- for `if`, `before` for `then`. Assumes nothing.
+-- The number that checks give is that of the first that fails, and no other will do (`answers-one`). Checks are put together as
+-- the numbers are: `or` for `||`, `one` for `if`, `before` for `then`. Assumes nothing.
 use Prim.Native.Nat.{ℕ, zero, suc, _≤_}
-use mathlib.Core.Path.{_≡_, refl}
+use mathlib.Core.Path.{_≡_, refl, sym}
 use mathlib.Core.Logic.{_↔_, _⊎_, inl, inr, Iff·trans}
 use mathlib.Core.List.{List, [], _∷_, _++_}
 use mathlib.Core.Bool.{Bool, true, false, _||_}
@@ -10,6 +10,11 @@ use lib.Dec.{T as Is}
 use Rattle.base.specs.Checks.{_if_, _then_}
 use Rattle.base.proofs.Tests.{or-iff}
 use Rattle.demands.specs.Order.{Check, _when_, AllPass, FirstFails, Answers}
+
+-- two numbers of the same checks are the same
+pub answers-one : (cs : List Check) (m n : ℕ) → Answers cs m → Answers cs n → m ≡ n
+answers-one cs zero n a b = sym (b .accepted .1 (a .accepted .0 refl))
+answers-one cs (suc m) n a b = sym (b .refused (suc m) (omega arith) .1 (a .refused (suc m) (omega arith) .0 refl))
 
 -- no checks
 pub none : Answers [] 0

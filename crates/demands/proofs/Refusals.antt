@@ -3,7 +3,7 @@
 -- theirs. Assumes nothing.
 use Prim.Native.Nat.{ℕ, zero, suc, _+_, _*_, _/_, _^_, _≤_, _<_}
 use mathlib.Core.Path.{_≡_}
-use mathlib.Core.Logic.{_↔_, _≢_, inl, inr, Iff·trans, Iff·not}
+use mathlib.Core.Logic.{_↔_, _≢_, inl, inr, Iff·trans, Iff·symm, Iff·not}
 use mathlib.Core.List.{List}
 use mathlib.Core.Bool.{_&&_, not}
 use native.Mathlib.Decide.{decLt}
@@ -20,11 +20,13 @@ use Rattle.table.specs.Table.{headOf, lineAt}
 use Rattle.meaning.specs.Tables.{tableOf, noBound, horizon}
 use Rattle.meaning.specs.Runs.{letter}
 use Rattle.faults.specs.Faults.{longestAge, badCounts, badLength, badMasks, badParts, badAges, lineFault, tableFault}
+use Rattle.faults.specs.Sound.{Sound}
+use Rattle.faults.proofs.Laws.{sound-iff}
 use Rattle.record.specs.declared.Record.{Record}
 use Rattle.record.specs.Records.{properb}
 use Rattle.record.proofs.Properness.{proper-iff}
 use Rattle.calls.specs.Calls.{needed, stepped, ProperFor, startFault, recordFault, letterFault, spanFault}
-use Rattle.demands.specs.Order.{Answers}
+use Rattle.demands.specs.Order.{AllPass, Answers}
 use Rattle.demands.specs.Counting.{ThereAre}
 use Rattle.demands.specs.Refusals.{HasFrom, BadRoom, StretchOf, WantsRoom, lineChecks, linesChecks, tableChecks, startChecks, recordChecks, letterChecks, spanChecks}
 use Rattle.demands.proofs.Order.{none, Tells, _or_, regroup, one, _before_}
@@ -107,6 +109,10 @@ table-answers b =
     before one 3 lengths
     before one 4 (regroup masks)
     before lines-answer b (h .lines)
+
+-- a table passes all of these checks exactly if it is sound
+pub sound-passes : (b : List ℕ) → AllPass (tableChecks b) ↔ Sound b
+sound-passes b = Iff·trans (Iff·symm (table-answers b .accepted)) (sound-iff b)
 
 -- ---- the calls
 
