@@ -1,31 +1,35 @@
--- The definitions at work: which check fails first, how many stretches there are, and two streams of the board's table
--- (document 01, One session, whole) with what the demands say of them. Assumes nothing.
-use Prim.Native.Nat.{ℕ, _≤_, _<_}
+-- The definitions at work: which check fails first, how many stretches there are, two streams of the board's table (document
+-- 01, One session, whole) with what the demands say of them, and two tables on which a looser demand 3 would differ. Assumes
+-- nothing.
+use Prim.Native.Nat.{ℕ, zero, suc, _+_, _≤_, _<_}
 use mathlib.Core.Path.{_≡_, refl}
 use mathlib.Core.Logic.{_⊎_, inl, inr}
 use native.Mathlib.Omega.{arith}
+use mathlib.Core.List.{List, [], _∷_, _++_}
 use lib.ListN.{take, set}
-use Rattle.base.specs.Masks.{hasb, union, most, all}
+use Rattle.base.specs.Masks.{Has, hasb, union, most, all}
 use Rattle.base.specs.Checks.{firstOf}
 use Rattle.table.specs.Table.{headOf, lineAt}
 use Rattle.table.proofs.Cases.{board-table}
-use Rattle.meaning.specs.Tables.{tableOf, horizon, acceptingAt}
-use Rattle.meaning.specs.Runs.{letter, span, Word, empty, _▷_, _⧺_, Accepted}
+use Rattle.meaning.specs.Tables.{Table, tableOf, horizon, acceptingAt}
+use Rattle.meaning.specs.Runs.{letter, span, Word, empty, _▷_, _⧺_, Follows, Step, Accepted}
+use Rattle.meaning.specs.Sets.{Confs, Taken, step, after, Accepts, Nothing, Everything, Over}
 use Rattle.meaning.specs.Ages.{image, freshAt, letterAt, passedAt, spanAt, stepAt, acceptsAt}
 use Rattle.faults.specs.Faults.{badCounts, badLength, badMasks, badParts, badAges, lineFault, tableFault}
 use Rattle.record.specs.Pairs.{startPairs, gapPairs, stepPairs}
-use Rattle.record.specs.Verdicts.{verdictAt}
+use Rattle.record.specs.Verdicts.{verdictAt, settledAt}
 use Rattle.record.specs.Stretches.{LongestRun, touches, push, newest}
 use Rattle.record.specs.Records.{inside, pairIn, pairsAt, recordOf, pairOkb, stretchOkb, followsb, blankb, placeOkb, properb}
 use Rattle.record.proofs.Cases.{seven}
 use Rattle.verdicts.specs.declared.Verdict.the-variants.{Yes}
 use Rattle.calls.specs.declared.Answer.{Answer}
 use Rattle.calls.specs.declared.VerdictReply.the-variants as VerdictCases
-use Rattle.calls.specs.Calls.{startFault, recordFault, letterFault, spanFault, startOf, letterOf, spanOf, gapOf, verdictOf}
+use Rattle.calls.specs.Calls.{startFault, recordFault, letterFault, spanFault, startOf, letterOf, spanOf, gapOf, verdictOf, settledOf, verdictReply, settledReply}
 use Rattle.demands.specs.Order.{FirstFails}
 use Rattle.demands.specs.Counting.{ThereAre}
 use Rattle.demands.specs.Refusals.{linesChecks, tableChecks}
 use Rattle.demands.specs.Streams.{the-start, a-gap, Stream, started, lettered, spanned, gapped}
+use Rattle.demands.specs.Demands.{told-unsure, told-settled, FromEvery}
 use Rattle.demands.proofs.Counting.{there-are-one, stretches-counted}
 use Rattle.demands.proofs.Demands.{demand-2, never-false}
 
@@ -112,3 +116,65 @@ unfolding startFault recordFault letterFault spanFault startOf letterOf spanOf g
     badLength badMasks badParts badAges lineFault tableFault image freshAt letterAt passedAt spanAt stepAt acceptsAt tableOf
     horizon acceptingAt headOf lineAt hasb union most all firstOf
 fresh-whatever-was-lost = never-false board-table _ _ after-a-gap (VerdictCases.Told Yes) refl .yes-of-all refl
+
+-- ---- two tables on which a looser demand 3 would differ
+
+-- one state, which accepts, and no lines
+abbrev pub lone-table : List ℕ
+lone-table = 1 ∷ 0 ∷ 12 ∷ 1 ∷ 1 ∷ 0 ∷ 0 ∷ 0 ∷ 0 ∷ 0 ∷ 1 ∷ 0 ∷ []
+
+-- directly after a gap every set that is not empty accepts; it is unsure all the same, since the empty one may have stood there
+pub unsure-for-the-empty-set :
+    (verdictReply told-unsure ≡ verdictOf lone-table (gapOf lone-table (startOf lone-table 1 .next) .next))
+    × (¬ FromEvery (tableOf lone-table) empty)
+    × ((S : Confs) → Over (tableOf lone-table) S → (q t : ℕ) → S q t → Accepts (tableOf lone-table) S)
+unfolding startFault recordFault startOf gapOf verdictOf inside pairIn pairsAt recordOf pairOkb stretchOkb followsb blankb
+    placeOkb properb touches push newest startPairs gapPairs verdictAt badCounts badLength badMasks tableFault acceptsAt tableOf
+    horizon acceptingAt headOf lineAt union most all firstOf after Has
+unsure-for-the-empty-set = (refl, (λ f. f Nothing (λ q t z. absurd z) .3), some)
+  where
+    some : (S : Confs) → Over (tableOf lone-table) S → (q t : ℕ) → S q t → Accepts (tableOf lone-table) S
+    some S o zero t h = (0, t, refl, h)
+    some S o (suc q) t h = absurd (let l : suc q < 1 = o (suc q) t h in omega arith)
+
+-- one state, which stands, and a line from it to itself that keeps the age, any age: the horizon is 0
+abbrev pub kept-table : List ℕ
+kept-table =
+    (1 ∷ 0 ∷ 24 ∷ 1 ∷ 1 ∷ 0 ∷ 0 ∷ 0 ∷ 1 ∷ 0 ∷ 0 ∷ 1 ∷ [])
+    ++ (0 ∷ 0 ∷ 0 ∷ 0 ∷ 0 ∷ 0 ∷ 0 ∷ 0 ∷ 255 ∷ 255 ∷ 255 ∷ 255 ∷ [])
+
+abbrev pub kept : Table
+kept = tableOf kept-table
+
+-- a gap, the letter, and a second
+abbrev pub moved : Answer
+moved = let gone = gapOf kept-table (startOf kept-table 1 .next) in
+    spanOf kept-table (letterOf kept-table (gone .next) 0 .next) 1
+
+-- it is settled, since the state is held above the horizon whatever stood at the gap's end; at age 2 it is held by what became
+-- of all configurations, and not by what became of none
+pub settled-above-the-horizon :
+    (settledReply told-settled ≡ settledOf kept-table (moved .next))
+    × (¬ after kept Nothing (empty ▷ letter 0 ▷ span 1) 0 2)
+    × after kept (Everything kept) (empty ▷ letter 0 ▷ span 1) 0 2
+unfolding startFault recordFault letterFault spanFault startOf letterOf spanOf gapOf settledOf inside pairIn pairsAt recordOf
+    pairOkb stretchOkb followsb blankb placeOkb properb touches push newest startPairs gapPairs stepPairs settledAt badCounts
+    badLength badMasks badParts badAges lineFault tableFault image freshAt letterAt passedAt spanAt stepAt tableOf horizon headOf
+    lineAt hasb union most all firstOf after step Step
+settled-above-the-horizon =
+    (refl, (λ f. none (f .0) (f .1) (f .2) (f .3 .1)), (0, 1, inl (0, 1, omega arith, taken), (refl, refl)))
+  where
+    none : (p t : ℕ) → Taken kept (letter 0) Nothing p t ⊎ ((t ≡ 0) × Has (kept .standing) p) → t + 1 ≡ 2 → ⊥
+    none p t (inl f) e = f .2
+    none p t (inr f) e = omega (arith, f .0)
+
+    taken : Follows kept 0 0 1 0 1
+    taken = record {
+      index = 0;
+      listed = omega arith;
+      bears = refl;
+      leaves = refl;
+      meets = (omega arith, inl refl);
+      enters = refl;
+      aged = refl;
+    }
