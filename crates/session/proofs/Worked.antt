@@ -1,5 +1,5 @@
--- The worked session comes out (`the-worked-session`), and so does a session of another table (`the-pump`), by computation.
--- Assumes nothing.
+-- The worked session comes out (`the-worked-session`), also to its end in room 1 (`goes-on-in-room-1`), and so does a session of
+-- another table (`the-pump`), by computation. Assumes nothing.
 use Prim.Native.Nat.{ℕ, _+_}
 use Prim.Native.String.{String}
 use mathlib.Core.Path.{_≡_, refl}
@@ -19,7 +19,7 @@ use Rattle.record.specs.Records.{inside, pairIn, pairsAt, recordOf, pairOkb, st
 use Rattle.calls.specs.Calls.{startFault, recordFault, letterFault, spanFault, startOf, letterOf, spanOf, gapOf}
 use Rattle.entries.specs.Entries.{isEntry, readAt}
 use Rattle.text.specs.Text.{ascii, decimal, lineText, refusalText}
-use Rattle.session.specs.Worked.{printed, joined, heldFrom, heldAfter, WorkedSession}
+use Rattle.session.specs.Worked.{input, joined, printed, heldFrom, heldAfter, WorkedSession}
 use Rattle.session.specs.Sessions.{framed, tableLength, tableIn, answerText, entriesText, begunText, sessionOf}
 
 pub the-worked-session : WorkedSession
@@ -30,6 +30,31 @@ unfolding
     badParts badAges lineFault tableFault image freshAt letterAt passedAt spanAt stepAt acceptsAt tableOf horizon acceptingAt
     headOf lineAt hasb union most all firstOf lineText refusalText decimal
 the-worked-session = (refl, refl, refl)
+
+-- after the refused look of entry 3 the session goes on
+pub goes-on-in-room-1 :
+    sessionOf (input 1)
+    ≡ joined (map ascii (
+    "0 no settled 1\n"
+    ∷ "1 yes settled 1\n"
+    ∷ "2 yes settled 1\n"
+    ∷ "3 refused 11\n"
+    ∷ "4 yes settled 0\n"
+    ∷ "5 no settled 1\n"
+    ∷ "6 unsure open 1\n"
+    ∷ "7 refused 11\n"
+    ∷ "8 unsure open 1\n"
+    ∷ "9 unsure open 1\n"
+    ∷ "10 refused 10\n"
+    ∷ "11 refused 9\n"
+    ∷ []))
+unfolding
+    sessionOf framed tableIn tableLength begunText answerText entriesText isEntry readAt startFault recordFault letterFault
+    spanFault startOf letterOf spanOf gapOf inside pairIn pairsAt recordOf pairOkb stretchOkb followsb blankb placeOkb properb
+    touches push newest startPairs gapPairs stepPairs verdictAt settledAt badCounts badLength badMasks badParts badAges
+    lineFault tableFault image freshAt letterAt passedAt spanAt stepAt acceptsAt tableOf horizon acceptingAt headOf lineAt
+    hasb union most all firstOf lineText refusalText decimal
+goes-on-in-room-1 = refl
 
 -- ---- a session of the other table: examples/pump.hex, whose lines the second program prints
 
