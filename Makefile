@@ -1,7 +1,8 @@
 # make run   builds what is needed and runs a session: the worked one, or SESSION=FILE
 # make test  proves every crate and compares; its last line is "N passed, 0 failed"
+# make bench counts the instructions that an entry takes, beside a watch written by hand
 
-.PHONY: run test clean
+.PHONY: run test bench clean
 
 SESSION = examples/board.hex
 
@@ -11,5 +12,8 @@ run:
 test:
 	@scripts/test
 
+bench:
+	@scripts/bench
+
 clean:
-	rm -rf target oracle/target .tools
+	rm -rf target oracle/target bench/target .tools

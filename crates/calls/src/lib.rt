@@ -16,6 +16,7 @@ use verdicts::Verdict;
 
 // What start, letter, span and gap answer: 0 with the new record, or the number of the first check that failed with the
 // record as it was handed in; a refused start has a record of all zeros.
+#[repr(C)]
 pub struct Answer {
     pub number: u8,
     pub next: Record,

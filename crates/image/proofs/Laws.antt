@@ -11,7 +11,7 @@ use native.Mathlib.Nat.{le-trans, mod-eq-of-lt, one-mul}
 use native.Mathlib.Numerals.{add-one}
 use native.Mathlib.Omega.{arith}
 use lib.Bits.{or-zero-r}
-use lib.Dec.{eqb, leb, ltb}
+use lib.Dec.{T as Is, eqb, leb, ltb}
 use lib.Pow.{pow-lt}
 use borrow.Author.Tests.{not-true, not-false, le-leb, lt-leb, ltb-true, ltb-false, leb-true, leb-false, eq-eqb, ne-eqb, le-ltb, lt-ltb}
 use Rattle.base.specs.Masks.{hasb}
@@ -30,7 +30,8 @@ use Rattle.record.specs.declared.Stretch.{Stretch}
 use Rattle.record.specs.declared.Record.{Record}
 use Rattle.record.specs.Pairs.{noPair, both, together}
 use Rattle.record.specs.Records.{place}
-use Rattle.record.proofs.Stretches.{pair-ext}
+use Rattle.record.specs.Stretches.{samePair}
+use Rattle.record.proofs.Stretches.{pair-ext, samePair-iff}
 use Rattle.record.proofs.Together.{side-together, together-next}
 use Rattle.image.specs.Known.{Known}
 use Rattle.image.specs.declared.Piece.{Piece}
@@ -129,6 +130,13 @@ module _ (b : List ℕ) (H : ℕ) (r : Record) (k : Known b H r) where
 
 pub imagePair-none : (T : Table) (r : Bool) (a t : ℕ) → imagePair T r a t noPair ≡ noPair
 imagePair-none T r a t = pair-ext _ _ (image-none T r a t) (image-none T r a t)
+
+-- as code asks whether there is anything
+pub image-nothing : (T : Table) (r : Bool) (a t : ℕ) (p none : Pair) (same : Bool) → none ≡ noPair → same ≡ samePair p none
+    → same ≡ true → none ≡ imagePair T r a t p
+image-nothing T r a t p none same n e told =
+    let p-none : p ≡ none = samePair-iff p none .0 (subst Is (sym (sym e ∙ told)) tt) in
+    n ∙ sym (imagePair-none T r a t) ∙ ap (imagePair T r a t) (sym (p-none ∙ n))
 
 pub lines-together : (T : Table) (r : Bool) (a t : ℕ) (p : Pair) (k : ℕ) (v : Pair) → k ≡ T .lines
     → v ≡ together k (λ i. linePair (T .line i) r a t p) → v ≡ imagePair T r a t p

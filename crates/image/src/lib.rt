@@ -112,11 +112,17 @@ pub fn piece_of(t: &[u8], reset: bool, letter: u8, age: u32, last: u32, p: Pair)
     out
 }
 
-// Where the letter leads from the pair at an age, whatever it does at the next.
+// Where the letter leads from the pair at an age, whatever it does at the next. Nothing leads anywhere from no state, as there often
+// is above H: then no line is asked.
 pub fn image_of(t: &[u8], reset: bool, letter: u8, age: u32, p: Pair) -> Pair
     requires { ⌜ Sound (now t) ⌝ }
     ensures { λ r. ⌜ r ≡ imagePair (tableOf (now (t .entry))) reset letter age p ⌝ }
 {
+    let none = record::no_pair();
+    let nothing = record::same_pair(p, none);
+    if nothing {
+        return none;
+    }
     let piece = piece_of(t, reset, letter, age, age, p);
     piece.led
 }

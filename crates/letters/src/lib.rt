@@ -52,9 +52,11 @@ fn led_back(t: &[u8], horizon: u32, r: Record, letter: u8) -> Pair
 {
     let count = r.count;
     let mut out = record::no_pair();
+    let places = r.places;
     let mut i = 0;
     while i < count {
-        let x = record::place_at(r, i);
+        let at = i as usize;
+        let x = places[at];
         let more = led_back_in(t, letter, x);
         out = record::both(out, more);
         i += 1;
@@ -109,10 +111,11 @@ pub fn after_letter(t: &[u8], horizon: u32, r: Record, letter: u8) -> Record
     let high = image::image_of(t, false, letter, horizon + 1, above);
     let empty = record::empty_record(r.room, high);
     let mut out = record::push(empty, 0, 0, first);
-    let held = r.count;
+    let places = r.places;
     let mut i = 0;
-    while i < held {
-        let x = record::place_at(r, i);
+    while i < r.count {
+        let at = i as usize;
+        let x = places[at];
         out = kept_in(t, letter, x, out);
         i += 1;
     }

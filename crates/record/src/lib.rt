@@ -12,12 +12,14 @@ ghost use Rattle.record.specs.Records.{placeOkb, properb};
 ghost use Rattle.record.specs.Building.{emptyRecord, overfull, appended, joined, pushed};
 
 // The sure and the possible states at an age.
+#[repr(C)]
 pub struct Pair {
     pub sure: u16,
     pub possible: u16,
 }
 
 // The ages from first to last, both in, which have one pair.
+#[repr(C)]
 pub struct Stretch {
     pub first: u32,
     pub last: u32,
@@ -25,6 +27,7 @@ pub struct Stretch {
 }
 
 // The stretches are the first `count` of the places; `above` is the pair of all ages above H.
+#[repr(C)]
 pub struct Record {
     pub room: u8,
     pub count: u8,
@@ -52,7 +55,7 @@ pub fn both(p: Pair, q: Pair) -> Pair
     }
 }
 
-fn same_pair(p: Pair, q: Pair) -> bool
+pub fn same_pair(p: Pair, q: Pair) -> bool
     ensures { λ x. ⌜ x ≡ samePair p q ⌝ }
 {
     if p.sure != q.sure {
@@ -87,9 +90,11 @@ fn pair_in(r: Record, n: u8, age: u32) -> Pair
     requires { ⌜ n ≤ 64 ⌝ }
     ensures { λ x. ⌜ x ≡ pairIn (r .places) n age ⌝ }
 {
+    let places = r.places;
     let mut i = n;
     while 0 < i {
-        let here = place_at(r, i - 1);
+        let at = (i - 1) as usize;
+        let here = places[at];
         let found = is_inside(here, age);
         if found {
             return here.pair;
@@ -285,11 +290,16 @@ fn append(r: Record, x: Stretch) -> Record
     if 64 <= count {
         return overfull_record(r.room, above);
     }
-    let mut next = r;
     let at = count as usize;
-    next.places[at] = x;
-    next.count = count + 1;
-    next
+    let more = count + 1;
+    let mut places = r.places;
+    places[at] = x;
+    Record {
+        room: r.room,
+        count: more,
+        places: places,
+        above: above,
+    }
 }
 
 // Whether x ends directly before the age a, and has the pair p.
@@ -313,11 +323,17 @@ fn join(r: Record, b: u32) -> Record
     ensures { λ s. ⌜ s ≡ joined r b ⌝ }
 {
     let at = (r.count - 1) as usize;
-    let mut x = r.places[at];
+    let above = r.above;
+    let mut places = r.places;
+    let mut x = places[at];
     x.last = b;
-    let mut next = r;
-    next.places[at] = x;
-    next
+    places[at] = x;
+    Record {
+        room: r.room,
+        count: r.count,
+        places: places,
+        above: above,
+    }
 }
 
 // The ages a to b, all with the pair p, behind the stretches of the ages below a: they go on with the last stretch or begin

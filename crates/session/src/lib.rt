@@ -102,7 +102,7 @@ fn put_entries(
     let mut ordinal: u16 = 1;
     let mut end = at;
     while place < count {
-        let read = entries::read_at(s, place, ordinal);
+        let read = reader::entry_at(s, place, ordinal);
         let Read::Got(entry, next) = read else {
             return text::put_refusal(out, end, ordinal, 12);
         };

@@ -75,9 +75,11 @@ fn passed(horizon: u32, seconds: u32, r: Record) -> Pair
 {
     let count = r.count;
     let mut out = record::no_pair();
+    let places = r.places;
     let mut i = 0;
     while i < count {
-        let x = record::place_at(r, i);
+        let at = i as usize;
+        let x = places[at];
         let more = passed_in(horizon, seconds, x);
         out = record::both(out, more);
         i += 1;
@@ -113,10 +115,11 @@ pub fn after_span(horizon: u32, r: Record, seconds: u32) -> Record
     let above = r.above;
     let high = record::both(gone, above);
     let mut out = record::empty_record(r.room, high);
-    let count = r.count;
+    let places = r.places;
     let mut i = 0;
-    while i < count {
-        let x = record::place_at(r, i);
+    while i < r.count {
+        let at = i as usize;
+        let x = places[at];
         out = moved_in(horizon, seconds, x, out);
         i += 1;
     }

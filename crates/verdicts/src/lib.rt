@@ -32,9 +32,11 @@ fn accepted_in(accepting: u16, r: Record) -> Pair
 {
     let count = r.count;
     let mut out = record::no_pair();
+    let places = r.places;
     let mut i = 0;
     while i < count {
-        let x = record::place_at(r, i);
+        let at = i as usize;
+        let x = places[at];
         let pair = x.pair;
         let more = accepted_of(accepting, pair);
         out = record::both(out, more);
@@ -71,9 +73,11 @@ pub fn is_settled(r: Record) -> bool
         return false;
     }
     let count = r.count;
+    let places = r.places;
     let mut i = 0;
     while i < count {
-        let x = record::place_at(r, i);
+        let at = i as usize;
+        let x = places[at];
         let pair = x.pair;
         if pair.sure != pair.possible {
             return false;

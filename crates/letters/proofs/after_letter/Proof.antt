@@ -1,7 +1,7 @@
 -- `letters::after_letter` meets its contract: before place i, `out` is built from the ages below `reached r i`; the places left
 -- fall. Assumes nothing.
 use Prim.Native.Nat.{suc, _-_, _≤_, _<_}
-use mathlib.Core.Path.{_≡_}
+use mathlib.Core.Path.{_≡_, refl}
 use native.Mathlib.Omega.{arith}
 use borrow.Author.Needs.{needs}
 use denote.Ref.{now}
@@ -15,12 +15,12 @@ use Rattle.letters.proofs.after_letter.Statement.{statement}
 use Rattle.letters.proofs.after_letter.Tie as tie
 
 abbrev Inv-loop : tie.InvT-loop
-Inv-loop t horizon r letter out₀ held i₀ out i =
-    (i ≤ held)
+Inv-loop t horizon r letter out₀ places i₀ out i =
+    (i ≤ r .count)
     × (out ≡ heldIn (r .room) (afterLetter t horizon r letter (suc horizon)) (newest (reached r i) (afterLetter t horizon r letter)))
 
 abbrev μ-loop : tie.MeasureT-loop
-μ-loop t horizon r letter out₀ held i₀ out i = held - i
+μ-loop t horizon r letter out₀ places i₀ out i = r .count - i
 
 newborn-requires : tie.Need-newborn-requires Inv-loop μ-loop
 newborn-requires c κs = search needs
@@ -39,30 +39,36 @@ push-requires c κs = search needs
 
 loop-holds : tie.Need-loop-holds Inv-loop μ-loop
 loop-holds c =
-    let a = c .before .before .before .before .before .before .args in
-    let known = c .before .before .before .before .before .before .pre in
+    let a = c .before .before .before .before .before .before .before .args in
+    let known = c .before .before .before .before .before .before .before .pre in
     let T = tableOf (now (a .t)) in
-    let high = c .before .before .image-of in
-    let first = c .before .before .before .before .newborn in
+    let high = c .before .before .before .image-of in
+    let first = c .before .before .before .before .before .newborn in
     let above = kept-above T (a .horizon) _ (a .letter) (a .r) (known .proper) (high .result) (high .ensures) in (
       search needs,
       rw (← above) (kept-begun T (a .horizon) _ (a .letter) (a .r) (known .proper) (a .r .room) (high .result) (first .result)
-          (c .before .empty-record .result) _ (known .proper .room-high) (first .ensures) (c .before .empty-record .ensures)
-          (c .push .ensures)),
+          (c .before .before .empty-record .result) _ (known .proper .room-high) (first .ensures) (c .before .before .empty-record .ensures)
+          (c .before .push .ensures)),
     )
 
-place-at-requires : tie.Need-place-at-requires Inv-loop μ-loop
-place-at-requires c κs = omega (arith, known-few _ _ _ (c .before .before .before .before .before .before .before .before .pre))
+cast-at : tie.Need-cast-at Inv-loop μ-loop
+cast-at c = search needs
+
+mul-x : tie.Need-mul-x Inv-loop μ-loop
+mul-x c = omega (arith, known-few _ _ _ (c .before .before .before .before .before .before .before .before .before .before .pre))
+
+array-copy-out-x : tie.Need-array-copy-out-x Inv-loop μ-loop
+array-copy-out-x c = omega (arith, known-few _ _ _ (c .before .before .before .before .before .before .before .before .before .before .pre))
 
 kept-in-requires : tie.Need-kept-in-requires Inv-loop μ-loop
 kept-in-requires c κs =
-    let known = c .before .before .before .before .before .before .before .before .before .pre in
-    (known .sound, known-place _ _ _ known (c .before .before .loop .i) _ (search needs) (c .place-at .ensures))
+    let known = c .before .before .before .before .before .before .before .before .before .before .before .pre in
+    (known .sound, known-place _ _ _ known (c .before .before .before .loop .i) _ (search needs) refl)
 
 add-i : tie.Need-add-i Inv-loop μ-loop
 add-i c =
-    let few = known-few _ _ _ (c .before .before .before .before .before .before .before .before .before .before .pre) in
-    let here : c .before .before .before .loop .i < 64 = omega arith in
+    let few = known-few _ _ _ (c .before .before .before .before .before .before .before .before .before .before .before .before .pre) in
+    let here : c .before .before .before .before .loop .i < 64 = omega arith in
     record { fits = omega arith }
 
 loop-less : tie.Need-loop-less Inv-loop μ-loop
@@ -70,19 +76,19 @@ loop-less c = search needs
 
 loop-again : tie.Need-loop-again Inv-loop μ-loop
 loop-again c =
-    let a = c .before .before .before .before .before .before .before .before .before .before .args in
-    let known = c .before .before .before .before .before .before .before .before .before .before .pre in
-    let turn = c .before .before .before .loop in (
+    let a = c .before .before .before .before .before .before .before .before .before .before .before .before .args in
+    let known = c .before .before .before .before .before .before .before .before .before .before .before .before .pre in
+    let turn = c .before .before .before .before .loop in (
       search needs,
       kept-next (tableOf (now (a .t))) (a .horizon) _ (a .letter) (a .r) (known .proper) (turn .i) (a .r .room) _ (turn .out) _
-          (known .proper .room-high) (search needs) (turn .inv .1) (rw (c .before .place-at .ensures) at (c .kept-in .ensures)),
+          (known .proper .room-high) (search needs) (turn .inv .1) (c .kept-in .ensures),
     )
 
 returns : tie.Need-returns Inv-loop μ-loop
 returns c =
-    let a = c .before .before .before .before .before .before .before .before .args in
-    let known = c .before .before .before .before .before .before .before .before .pre in
-    let turn = c .before .loop in
+    let a = c .before .before .before .before .before .before .before .before .before .before .args in
+    let known = c .before .before .before .before .before .before .before .before .before .before .pre in
+    let turn = c .before .before .loop in
     kept-all (tableOf (now (a .t))) (a .horizon) _ (a .letter) (a .r) (known .proper) (turn .i) _ _ _
     (omega arith) (turn .inv .1)
 
@@ -98,7 +104,9 @@ after-letter-spec =
     empty-record-requires
     push-requires
     loop-holds
-    place-at-requires
+    cast-at
+    mul-x
+    array-copy-out-x
     kept-in-requires
     add-i
     loop-less

@@ -22,14 +22,14 @@ returns-2 c = search tests
 cast-at : tie.Need-cast-at
 cast-at c = search needs
 
-mul-x : tie.Need-mul-x
-mul-x c = search needs
+add-more : tie.Need-add-more
+add-more c = search needs
 
-element-set-from-x : tie.Need-element-set-from-x
-element-set-from-x c = search needs
+mul-places : tie.Need-mul-places
+mul-places c = search needs
 
-add-next : tie.Need-add-next
-add-next c = search needs
+array-set-from-places : tie.Need-array-set-from-places
+array-set-from-places c = search needs
 
 returns-3 : tie.Need-returns-3
 unfolding appended
@@ -44,7 +44,7 @@ append-spec =
     overfull-record-requires-2
     returns-2
     cast-at
-    mul-x
-    element-set-from-x
-    add-next
+    add-more
+    mul-places
+    array-set-from-places
     returns-3)

@@ -13,14 +13,14 @@ cast-at c = search needs
 mul-x : tie.Need-mul-x
 mul-x c = search needs
 
-element-copy-out-x : tie.Need-element-copy-out-x
-element-copy-out-x c = search needs
+array-copy-out-x : tie.Need-array-copy-out-x
+array-copy-out-x c = search needs
 
-mul-x-2 : tie.Need-mul-x-2
-mul-x-2 c = search needs
+mul-places : tie.Need-mul-places
+mul-places c = search needs
 
-element-set-from-x : tie.Need-element-set-from-x
-element-set-from-x c = search needs
+array-set-from-places : tie.Need-array-set-from-places
+array-set-from-places c = search needs
 
 returns : tie.Need-returns
 unfolding joined
@@ -28,4 +28,4 @@ returns c = cc
 
 pub join-spec : {M : Type 1} → statement M
 join-spec =
-    tie.close (tie.spec sub-at cast-at mul-x element-copy-out-x mul-x-2 element-set-from-x returns)
+    tie.close (tie.spec sub-at cast-at mul-x array-copy-out-x mul-places array-set-from-places returns)

@@ -9,30 +9,35 @@ use Rattle.record.proofs.pair_in.Statement.{statement}
 use Rattle.record.proofs.pair_in.Tie as tie
 
 abbrev Inv-loop : tie.InvT-loop
-Inv-loop r n age i₀ i = (i ≤ n) × (pairIn (r .places) i age ≡ pairIn (r .places) n age)
+Inv-loop n age places i₀ i = (i ≤ n) × (pairIn places i age ≡ pairIn places n age)
 
 abbrev μ-loop : tie.MeasureT-loop
-μ-loop r n age i₀ i = i
+μ-loop n age places i₀ i = i
 
 loop-holds : tie.Need-loop-holds Inv-loop μ-loop
 loop-holds c = (search needs, refl)
 
-sub-place-at : tie.Need-sub-place-at Inv-loop μ-loop
-sub-place-at c = search needs
+sub-at : tie.Need-sub-at Inv-loop μ-loop
+sub-at c = search needs
 
-place-at-requires : tie.Need-place-at-requires Inv-loop μ-loop
-place-at-requires c κs = search needs
+cast-at : tie.Need-cast-at Inv-loop μ-loop
+cast-at c = search needs
+
+mul-here : tie.Need-mul-here Inv-loop μ-loop
+mul-here c = search needs
+
+array-copy-out-here : tie.Need-array-copy-out-here Inv-loop μ-loop
+array-copy-out-here c = search needs
 
 is-inside-requires : tie.Need-is-inside-requires Inv-loop μ-loop
 is-inside-requires c κs = search needs
 
 returns : tie.Need-returns Inv-loop μ-loop
 returns c =
-    let here = c .before .before .before .place-at in
     let found = c .before .before .is-inside in
     let turn = c .before .before .before .before .before .loop in
     let test = c .before .if1 in
-    pairIn-here _ _ (here .result) (found .result) (turn .i) (search needs) (here .ensures) (found .ensures) (test .taken)
+    pairIn-here _ _ _ (found .result) (turn .i) (search needs) refl (found .ensures) (test .taken)
     ∙ turn .inv .1
 
 sub-i : tie.Need-sub-i Inv-loop μ-loop
@@ -43,12 +48,11 @@ loop-less c = search needs
 
 loop-again : tie.Need-loop-again Inv-loop μ-loop
 loop-again c =
-    let here = c .before .before .place-at in
     let found = c .before .is-inside in
     let turn = c .before .before .before .before .loop in
     let test = c .if1 in (
       search needs,
-      pairIn-on _ _ (here .result) (found .result) (turn .i) (search needs) (here .ensures) (found .ensures) (test .left)
+      pairIn-on _ _ _ (found .result) (turn .i) (search needs) refl (found .ensures) (test .left)
           ∙ turn .inv .1,
     )
 
@@ -67,8 +71,10 @@ pair-in-spec =
     Inv-loop
     μ-loop
     loop-holds
-    sub-place-at
-    place-at-requires
+    sub-at
+    cast-at
+    mul-here
+    array-copy-out-here
     is-inside-requires
     returns
     sub-i

@@ -21,8 +21,8 @@ abbrev μ-loop : tie.MeasureT-loop
 loop-holds : tie.Need-loop-holds Inv-loop μ-loop
 loop-holds c = (search needs, going-begun _ _ _ _ _ _ _ (c .before .before .before .pre))
 
-read-at-requires : tie.Need-read-at-requires Inv-loop μ-loop
-read-at-requires c κs = search needs
+entry-at-requires : tie.Need-entry-at-requires Inv-loop μ-loop
+entry-at-requires c κs = search needs
 
 enum-known-read : tie.Need-enum-known-read Inv-loop μ-loop
 enum-known-read c = search needs
@@ -39,7 +39,7 @@ same-length c = search needs
 returns : tie.Need-returns Inv-loop μ-loop
 returns c =
     let read = c .before .before .before .before .before .before in
-    going-unread (read .before .before .loop .inv .1) (search needs) (read .read-at .ensures)
+    going-unread (read .before .before .loop .inv .1) (search needs) (read .entry-at .ensures)
     (c .before .before .before .before .enum-told .given .1) _ _ (c .before .before .put-refusal .ensures)
 
 answer-to-requires : tie.Need-answer-to-requires Inv-loop μ-loop
@@ -60,7 +60,7 @@ loop-less : tie.Need-loop-less Inv-loop μ-loop
 loop-less c =
     let got = c .before .before .before .before .before .before .before in
     let read = got .before .before in
-    going-less (read .before .before .loop .inv .1) (search needs) (read .read-at .ensures) (got .read .given .1)
+    going-less (read .before .before .loop .inv .1) (search needs) (read .entry-at .ensures) (got .read .given .1)
 
 loop-again : tie.Need-loop-again Inv-loop μ-loop
 loop-again c =
@@ -71,7 +71,7 @@ loop-again c =
     let put = c .before .before .before .put-answer in
     let same = put .kept .1 .1 .1 .1 .0 in (
       omega (arith, same, l .inv .0),
-      going-on (l .inv .1) more (got .before .before .read-at .ensures) (got .read .given .1)
+      going-on (l .inv .1) more (got .before .before .entry-at .ensures) (got .read .given .1)
           (c .before .before .before .before .before .answer-to .ensures) same (put .ensures),
     )
 
@@ -88,7 +88,7 @@ put-entries-spec =
     Inv-loop
     μ-loop
     loop-holds
-    read-at-requires
+    entry-at-requires
     enum-known-read
     enum-told
     put-refusal-requires

@@ -3,19 +3,21 @@
 use Prim.Native.Nat.{_-_, _≤_}
 use mathlib.Core.Path.{_≡_}
 use native.Mathlib.Omega.{arith}
+use lib.ListN.{getD}
 use borrow.Author.Needs.{needs}
 use Rattle.record.specs.Pairs.{together}
-use Rattle.record.specs.Records.{place}
+use Rattle.record.specs.Records.{blank}
 use Rattle.record.proofs.Together.{together-next}
 use Rattle.spans.specs.Spans.{passedIn}
 use Rattle.spans.proofs.passed.Statement.{statement}
 use Rattle.spans.proofs.passed.Tie as tie
 
 abbrev Inv-loop : tie.InvT-loop
-Inv-loop horizon seconds r count out₀ i₀ out i = (i ≤ count) × (out ≡ together i (λ i. passedIn horizon seconds (place r i)))
+Inv-loop horizon seconds count out₀ places i₀ out i =
+    (i ≤ count) × (out ≡ together i (λ i. passedIn horizon seconds (getD places i blank)))
 
 abbrev μ-loop : tie.MeasureT-loop
-μ-loop horizon seconds r count out₀ i₀ out i = count - i
+μ-loop horizon seconds count out₀ places i₀ out i = count - i
 
 no-pair-requires : tie.Need-no-pair-requires Inv-loop μ-loop
 no-pair-requires c κs = search needs
@@ -24,14 +26,20 @@ loop-holds : tie.Need-loop-holds Inv-loop μ-loop
 unfolding together
 loop-holds c = search needs
 
-place-at-requires : tie.Need-place-at-requires Inv-loop μ-loop
-place-at-requires c κs = search needs
+cast-at : tie.Need-cast-at Inv-loop μ-loop
+cast-at c = search needs
+
+mul-x : tie.Need-mul-x Inv-loop μ-loop
+mul-x c = search needs
+
+array-copy-out-x : tie.Need-array-copy-out-x Inv-loop μ-loop
+array-copy-out-x c = search needs
 
 passed-in-requires : tie.Need-passed-in-requires Inv-loop μ-loop
 passed-in-requires c κs =
-    let start = c .before .before .before .before in
+    let start = c .before .before .before .before .before in
     let held = start .pre .0 .1 .each (c .before .before .loop .i) (search needs) in
-    rw (c .place-at .ensures) (omega arith)
+    omega arith
 
 both-requires : tie.Need-both-requires Inv-loop μ-loop
 both-requires c κs = search needs
@@ -47,7 +55,7 @@ loop-again c = (search needs, together-next (c .before .before .before .before .
 
 returns : tie.Need-returns Inv-loop μ-loop
 returns c =
-    let all : c .before .loop .i ≡ c .before .before .before .args .r .count = omega arith in
+    let all : c .before .loop .i ≡ c .before .before .before .before .args .r .count = omega arith in
     cc
 
 pub passed-spec : {M : Type 1} → statement M
@@ -58,7 +66,9 @@ passed-spec =
     μ-loop
     no-pair-requires
     loop-holds
-    place-at-requires
+    cast-at
+    mul-x
+    array-copy-out-x
     passed-in-requires
     both-requires
     add-i

@@ -1,10 +1,9 @@
 -- `verdicts::accepted_in` meets its contract: before place i, `out` has the accepting states of the places below i; the places
 -- left fall. Assumes nothing.
 use Prim.Native.Nat.{_-_, _≤_}
-use mathlib.Core.Path.{_≡_, ap, ap₂, _∙_}
+use mathlib.Core.Path.{_≡_, ap₂, _∙_}
 use native.Mathlib.Omega.{arith}
 use borrow.Author.Needs.{needs}
-use Rattle.record.specs.declared.Stretch.{Stretch}
 use Rattle.record.specs.Pairs.{both, together}
 use Rattle.record.specs.Records.{place}
 use Rattle.record.proofs.Together.{together-next}
@@ -13,10 +12,10 @@ use Rattle.verdicts.proofs.accepted_in.Statement.{statement}
 use Rattle.verdicts.proofs.accepted_in.Tie as tie
 
 abbrev Inv-loop : tie.InvT-loop
-Inv-loop accepting r count out₀ i₀ out i = (i ≤ count) × (out ≡ together i (λ i. acceptedOf accepting (place r i .pair)))
+Inv-loop accepting r count out₀ places i₀ out i = (i ≤ count) × (out ≡ together i (λ i. acceptedOf accepting (place r i .pair)))
 
 abbrev μ-loop : tie.MeasureT-loop
-μ-loop accepting r count out₀ i₀ out i = count - i
+μ-loop accepting r count out₀ places i₀ out i = count - i
 
 no-pair-requires : tie.Need-no-pair-requires Inv-loop μ-loop
 no-pair-requires c κs = search needs
@@ -25,8 +24,14 @@ loop-holds : tie.Need-loop-holds Inv-loop μ-loop
 unfolding together
 loop-holds c = search needs
 
-place-at-requires : tie.Need-place-at-requires Inv-loop μ-loop
-place-at-requires c κs = search needs
+cast-at : tie.Need-cast-at Inv-loop μ-loop
+cast-at c = search needs
+
+mul-x : tie.Need-mul-x Inv-loop μ-loop
+mul-x c = search needs
+
+array-copy-out-x : tie.Need-array-copy-out-x Inv-loop μ-loop
+array-copy-out-x c = search needs
 
 accepted-of-requires : tie.Need-accepted-of-requires Inv-loop μ-loop
 accepted-of-requires c κs = search needs
@@ -42,12 +47,8 @@ loop-less c = search needs
 
 loop-again : tie.Need-loop-again Inv-loop μ-loop
 loop-again c =
-    let start = c .before .before .before .before .before .before .before in
     let at-loop = c .before .before .before .before .before .loop in
-    let here = c .before .before .before .place-at in
-    let same = ap (λ (x : Stretch). acceptedOf (start .args .accepting) (x .pair)) (here .ensures) in
-    let more = c .before .accepted-of .ensures ∙ same in
-    (search needs, together-next (at-loop .i) _ _ (c .both .ensures ∙ ap₂ both (at-loop .inv .1) more))
+    (search needs, together-next (at-loop .i) _ _ (c .both .ensures ∙ ap₂ both (at-loop .inv .1) (c .before .accepted-of .ensures)))
 
 accepted-of-requires-2 : tie.Need-accepted-of-requires-2 Inv-loop μ-loop
 accepted-of-requires-2 c κs = search needs
@@ -58,7 +59,7 @@ both-requires-2 c κs = search needs
 returns : tie.Need-returns Inv-loop μ-loop
 unfolding acceptedIn
 returns c =
-    let start = c .before .before .before .before .before .before in
+    let start = c .before .before .before .before .before .before .before in
     let all : c .before .before .before .before .loop .i ≡ start .args .r .count = omega arith in
     cc
 
@@ -70,7 +71,9 @@ accepted-in-spec =
     μ-loop
     no-pair-requires
     loop-holds
-    place-at-requires
+    cast-at
+    mul-x
+    array-copy-out-x
     accepted-of-requires
     both-requires
     add-i

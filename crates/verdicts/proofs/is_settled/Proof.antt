@@ -4,20 +4,21 @@ use Prim.Native.Nat.{_-_, _≤_}
 use mathlib.Core.Path.{_≡_, refl}
 use mathlib.Core.Bool.{true}
 use native.Mathlib.Omega.{arith}
+use lib.ListN.{getD}
 use borrow.Author.Needs.{needs}
 use Rattle.base.specs.Masks.{all}
 use Rattle.base.proofs.Tests.{all-next, all-not}
 use Rattle.base.proofs.Rules.{also, tests}
-use Rattle.record.specs.Records.{place}
+use Rattle.record.specs.Records.{blank}
 use Rattle.verdicts.specs.Said.{equalSets, settledIn}
 use Rattle.verdicts.proofs.is_settled.Statement.{statement}
 use Rattle.verdicts.proofs.is_settled.Tie as tie
 
 abbrev Inv-loop : tie.InvT-loop
-Inv-loop r count i₀ i = (i ≤ count) × (true ≡ all i (λ i. equalSets (place r i .pair)))
+Inv-loop count places i₀ i = (i ≤ count) × (true ≡ all i (λ i. equalSets (getD places i blank .pair)))
 
 abbrev μ-loop : tie.MeasureT-loop
-μ-loop r count i₀ i = count - i
+μ-loop count places i₀ i = count - i
 
 returns : tie.Need-returns Inv-loop μ-loop
 unfolding settledIn
@@ -27,17 +28,22 @@ loop-holds : tie.Need-loop-holds Inv-loop μ-loop
 unfolding all
 loop-holds c = (search needs, refl)
 
-place-at-requires : tie.Need-place-at-requires Inv-loop μ-loop
-place-at-requires c κs = search needs
+cast-at : tie.Need-cast-at Inv-loop μ-loop
+cast-at c = search needs
+
+mul-x : tie.Need-mul-x Inv-loop μ-loop
+mul-x c = search needs
+
+array-copy-out-x : tie.Need-array-copy-out-x Inv-loop μ-loop
+array-copy-out-x c = search needs
 
 returns-2 : tie.Need-returns-2 Inv-loop μ-loop
 unfolding settledIn
 returns-2 c =
-    let here = c .before .before .before .place-at in
     let at-loop = c .before .before .before .before .before .loop in
-    let r = c .before .before .before .before .before .before .before .before .before .args .r in
+    let r = c .before .before .before .before .before .before .before .before .before .before .args .r in
     also (equalSets (r .above)) _ _ (search tests)
-    (all-not (at-loop .i) (r .count) _ (search needs) (rw (← (here .ensures)) (search tests)))
+    (all-not (at-loop .i) (r .count) _ (search needs) (search tests))
 
 add-i : tie.Need-add-i Inv-loop μ-loop
 add-i c = search needs
@@ -47,14 +53,13 @@ loop-less c = search needs
 
 loop-again : tie.Need-loop-again Inv-loop μ-loop
 loop-again c =
-    let here = c .before .before .before .place-at in
     let at-loop = c .before .before .before .before .before .loop in
-    (search needs, all-next (at-loop .i) _ (at-loop .inv .1) (rw (← (here .ensures)) (search tests)))
+    (search needs, all-next (at-loop .i) _ (at-loop .inv .1) (search tests))
 
 returns-3 : tie.Need-returns-3 Inv-loop μ-loop
 unfolding settledIn
 returns-3 c =
-    let r = c .before .before .before .before .before .args .r in
+    let r = c .before .before .before .before .before .before .args .r in
     let whole : c .before .loop .i ≡ r .count = omega arith in
     also (equalSets (r .above)) _ _ (search tests) (rw (← whole) (c .before .loop .inv .1))
 
@@ -66,7 +71,9 @@ is-settled-spec =
     μ-loop
     returns
     loop-holds
-    place-at-requires
+    cast-at
+    mul-x
+    array-copy-out-x
     returns-2
     add-i
     loop-less
