@@ -112,8 +112,8 @@ pub fn piece_of(t: &[u8], reset: bool, letter: u8, age: u32, last: u32, p: Pair)
     out
 }
 
-// Where the letter leads from the pair at an age, whatever it does at the next. Nothing leads anywhere from no state, as there often
-// is above H: then no line is asked.
+// Where the letter leads from the pair at an age, whatever it does at the next. Where the pair has no state, as it often is above H,
+// no line is asked.
 pub fn image_of(t: &[u8], reset: bool, letter: u8, age: u32, p: Pair) -> Pair
     requires { ⌜ Sound (now t) ⌝ }
     ensures { λ r. ⌜ r ≡ imagePair (tableOf (now (t .entry))) reset letter age p ⌝ }

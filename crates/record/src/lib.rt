@@ -65,7 +65,7 @@ pub fn same_pair(p: Pair, q: Pair) -> bool
 }
 
 // Place i, the first being place 0.
-pub fn place_at(r: Record, i: u8) -> Stretch
+fn place_at(r: Record, i: u8) -> Stretch
     requires { ⌜ i < 64 ⌝ }
     ensures { λ x. ⌜ x ≡ place r i ⌝ }
 {
