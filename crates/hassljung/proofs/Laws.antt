@@ -1,5 +1,5 @@
--- What a question answers in a case of its enum crosses as what the question is said to answer (`crossed`). And nothing is lost on
--- the way: whoever reads what crossed has the question's answer again (`verdict-read` and its likes). Assumes nothing.
+-- What a question answers in a case of its enum crosses as what the question is said to answer (`crossed`). And nothing is lost
+-- on the way: whoever reads what crossed has the question's answer again (`verdict-read` and its likes). Assumes nothing.
 use Prim.Native.Nat.{ℕ, zero, suc}
 use mathlib.Core.Path.{_≡_, refl, sym, ap, _∙_}
 use mathlib.Core.Bool.{Bool, cond}

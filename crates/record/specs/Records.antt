@@ -105,12 +105,15 @@ followsb x y = ltb (x .last) (y .first) && not (eqb (suc (x .last)) (y .first) &
 unfoldable pub blankb : Stretch → Bool
 blankb x = eqb (x .first) 0 && eqb (x .last) 0 && samePair (x .pair) noPair
 
--- place i: in use it is a proper stretch and may follow the one before it, if there is one; otherwise it is zero
+-- what stands at place i, where so many places are in use: in use it is a proper stretch and may follow the one before it, if
+-- there is one; otherwise it is zero
+abbrev pub standsb : ℕ → ℕ → ℕ → ℕ → Stretch → Stretch → Bool
+standsb H n count i before here =
+    cond (ltb i count) (stretchOkb H n here && (eqb i 0 || followsb before here)) (blankb here)
+
+-- the same of place i of a record
 unfoldable pub placeOkb : ℕ → ℕ → Record → ℕ → Bool
-placeOkb H n r i =
-    cond (ltb i (r .count))
-    (stretchOkb H n (place r i) && (eqb i 0 || followsb (place r (i - 1)) (place r i)))
-    (blankb (place r i))
+placeOkb H n r i = standsb H n (r .count) i (place r (i - 1)) (place r i)
 
 -- `Proper`
 unfoldable pub properb : ℕ → ℕ → Record → Bool

@@ -1,14 +1,14 @@
 // The record of a watch: what it holds of the ages 0 to H, as stretches, and of all ages above H. Whether a record is proper,
 // what it says of an age, and how one is built stretch by stretch. Every value is answered: a record may come from elsewhere
 // and hold anything. Sets of states have bit i for state i.
-ghost use Prim.Native.Nat.{_≤_, _<_};
+ghost use Prim.Native.Nat.{_-_, _≤_, _<_};
 ghost use mathlib.Core.Path.{_≡_};
 ghost use lib.ListN.{replicate};
 ghost use Rattle.base.specs.Masks.{all};
 ghost use Rattle.record.specs.Pairs.{noPair, both};
 ghost use Rattle.record.specs.Stretches.{samePair, touches};
 ghost use Rattle.record.specs.Records.{blank, place, inside, pairIn, pairsAt, pairOkb, stretchOkb, followsb, blankb};
-ghost use Rattle.record.specs.Records.{placeOkb, properb};
+ghost use Rattle.record.specs.Records.{standsb, placeOkb, properb};
 ghost use Rattle.record.specs.Building.{emptyRecord, overfull, appended, joined, pushed};
 
 // The sure and the possible states at an age.
@@ -181,13 +181,21 @@ fn is_blank(x: Stretch) -> bool
     pair.possible == 0
 }
 
-// Place i: in use it is a proper stretch and may follow the one before it; otherwise it is zero.
-fn place_ok(horizon: u32, states: u8, r: Record, i: u8) -> bool
-    requires { ⌜ i < 64 ⌝ }
-    ensures { λ x. ⌜ x ≡ placeOkb horizon states r i ⌝ }
+// The place before place i; before the first there is none, and it stands for itself.
+fn place_before(i: u8) -> u8
+    ensures { λ x. ⌜ x ≡ i - 1 ⌝ }
 {
-    let here = place_at(r, i);
-    if r.count <= i {
+    if i == 0 {
+        return 0;
+    }
+    i - 1
+}
+
+// Place i of a record of that count: in use it is a proper stretch and may follow the one before it; otherwise it is zero.
+fn place_ok(horizon: u32, states: u8, count: u8, i: u8, before: Stretch, here: Stretch) -> bool
+    ensures { λ x. ⌜ x ≡ standsb horizon states count i before here ⌝ }
+{
+    if count <= i {
         return is_blank(here);
     }
     let ok = stretch_ok(horizon, states, here);
@@ -197,16 +205,20 @@ fn place_ok(horizon: u32, states: u8, r: Record, i: u8) -> bool
     if i == 0 {
         return true;
     }
-    let before = place_at(r, i - 1);
     follows(before, here)
 }
 
 fn places_ok(horizon: u32, states: u8, r: Record) -> bool
     ensures { λ x. ⌜ x ≡ all 64 (placeOkb horizon states r) ⌝ }
 {
+    let places = r.places;
     let mut i = 0;
     while i < 64 {
-        let ok = place_ok(horizon, states, r, i);
+        let last = place_before(i) as usize;
+        let before = places[last];
+        let at = i as usize;
+        let here = places[at];
+        let ok = place_ok(horizon, states, r.count, i, before, here);
         if !ok {
             return false;
         }

@@ -25,8 +25,9 @@ returns c = crossed verdictReply verdictAnswer (c .before .reply .given .1) (c .
 
 returns-2 : tie.Need-returns-2
 returns-2 c =
+    let asked = c .before .before .before .before .verdict in
     ap (λ (n : ℕ). record { number = 0; verdict = n }) (c .verdict-number .ensures) ∙
-    crossed verdictReply verdictAnswer (c .before .before .reply2 .given .1) (c .before .before .before .before .verdict .ensures)
+    crossed verdictReply verdictAnswer (c .before .before .reply2 .given .1) (asked .ensures)
 
 pub hassljung-verdict-spec : {M : Type 1} → statement M
 hassljung-verdict-spec =

@@ -44,10 +44,11 @@ loop-holds c =
     let T = tableOf (now (a .t)) in
     let high = c .before .before .before .image-of in
     let first = c .before .before .before .before .before .newborn in
+    let empty = c .before .before .empty-record in
     let above = kept-above T (a .horizon) _ (a .letter) (a .r) (known .proper) (high .result) (high .ensures) in (
       search needs,
       rw (← above) (kept-begun T (a .horizon) _ (a .letter) (a .r) (known .proper) (a .r .room) (high .result) (first .result)
-          (c .before .before .empty-record .result) _ (known .proper .room-high) (first .ensures) (c .before .before .empty-record .ensures)
+          (empty .result) _ (known .proper .room-high) (first .ensures) (empty .ensures)
           (c .before .push .ensures)),
     )
 
@@ -55,10 +56,14 @@ cast-at : tie.Need-cast-at Inv-loop μ-loop
 cast-at c = search needs
 
 mul-x : tie.Need-mul-x Inv-loop μ-loop
-mul-x c = omega (arith, known-few _ _ _ (c .before .before .before .before .before .before .before .before .before .before .pre))
+mul-x c =
+    let start = c .before .before .before .before .before .before .before .before .before .before in
+    omega (arith, known-few _ _ _ (start .pre))
 
 array-copy-out-x : tie.Need-array-copy-out-x Inv-loop μ-loop
-array-copy-out-x c = omega (arith, known-few _ _ _ (c .before .before .before .before .before .before .before .before .before .before .pre))
+array-copy-out-x c =
+    let start = c .before .before .before .before .before .before .before .before .before .before in
+    omega (arith, known-few _ _ _ (start .pre))
 
 kept-in-requires : tie.Need-kept-in-requires Inv-loop μ-loop
 kept-in-requires c κs =
@@ -67,7 +72,8 @@ kept-in-requires c κs =
 
 add-i : tie.Need-add-i Inv-loop μ-loop
 add-i c =
-    let few = known-few _ _ _ (c .before .before .before .before .before .before .before .before .before .before .before .before .pre) in
+    let start = c .before .before .before .before .before .before .before .before .before .before .before .before in
+    let few = known-few _ _ _ (start .pre) in
     let here : c .before .before .before .before .loop .i < 64 = omega arith in
     record { fits = omega arith }
 

@@ -1,5 +1,5 @@
--- `record::pair_in` meets its contract: the places from i on do not have the age, so that the pair is that of the places below i,
--- which fall. Assumes nothing.
+-- `record::pair_in` meets its contract: the places from i on do not have the age, so that the pair is that of the places
+-- below i, which fall. Assumes nothing.
 use Prim.Native.Nat.{_≤_}
 use mathlib.Core.Path.{_≡_, refl, _∙_}
 use borrow.Author.Needs.{needs}

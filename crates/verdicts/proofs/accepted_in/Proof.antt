@@ -48,7 +48,8 @@ loop-less c = search needs
 loop-again : tie.Need-loop-again Inv-loop μ-loop
 loop-again c =
     let at-loop = c .before .before .before .before .before .loop in
-    (search needs, together-next (at-loop .i) _ _ (c .both .ensures ∙ ap₂ both (at-loop .inv .1) (c .before .accepted-of .ensures)))
+    let more = c .before .accepted-of .ensures in
+    (search needs, together-next (at-loop .i) _ _ (c .both .ensures ∙ ap₂ both (at-loop .inv .1) more))
 
 accepted-of-requires-2 : tie.Need-accepted-of-requires-2 Inv-loop μ-loop
 accepted-of-requires-2 c κs = search needs

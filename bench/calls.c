@@ -1,7 +1,9 @@
-/* stack: how much stack each call of the library takes, over a session from standard input. Every call is made on a stack of its own,
- * which was filled with a pattern: the deepest byte that has another value tells. A caller's copies of the record that is
- * handed in and of the answer are counted with it. Prints the sizes of the structs, then a line for each call. */
+/* calls [stack]: makes the calls of a session, from standard input, through the library: for the start and for each entry its call
+ * and the three questions. With the word `stack` it tells how much stack each takes: every call is made on a stack of its own, which
+ * was filled with a pattern, and the deepest byte that has another value tells. A caller's copies of the record that is handed in
+ * and of the answer are counted with it. Then it prints the sizes of the structs, and a line for each call. */
 #define _XOPEN_SOURCE 700
+#include <stdbool.h>
 #include <stdio.h>
 #include <string.h>
 #include <ucontext.h>
@@ -10,6 +12,7 @@
 
 enum { LONGEST = 32768, STACK = 65536, PATTERN = 0xA5 };
 
+static bool on_own_stack;
 static uint8_t session[LONGEST];
 static uint8_t stack[STACK];
 static ucontext_t caller;
@@ -46,6 +49,10 @@ static void make(int call)
     static ucontext_t own;
     size_t untouched = 0;
 
+    if (!on_own_stack) {
+        calls[call].make();
+        return;
+    }
     memset(stack, PATTERN, STACK);
     getcontext(&own);
     own.uc_stack.ss_sp = stack;
@@ -68,11 +75,12 @@ static void make_and_ask(int call)
     make(COUNT);
 }
 
-int main(void)
+int main(int words, char **word)
 {
     size_t size = fread(session, 1, LONGEST, stdin), at;
     int call;
 
+    on_own_stack = words > 1 && strcmp(word[1], "stack") == 0;
     room = session[1];
     table = session + 2;
     length = (size_t)(session[3] << 8 | session[4]);
@@ -92,6 +100,8 @@ int main(void)
             make_and_ask(GAP);
         }
     }
+    if (!on_own_stack)
+        return 0;
     printf("record %zu\nanswer %zu\n", sizeof record, sizeof answer);
     for (call = 0; call < CALLS; call++)
         printf("%s %zu\n", calls[call].name, calls[call].deepest);
