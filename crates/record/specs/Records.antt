@@ -105,15 +105,15 @@ followsb x y = ltb (x .last) (y .first) && not (eqb (suc (x .last)) (y .first) &
 unfoldable pub blankb : Stretch → Bool
 blankb x = eqb (x .first) 0 && eqb (x .last) 0 && samePair (x .pair) noPair
 
--- what stands at place i, where so many places are in use: in use it is a proper stretch and may follow the one before it, if
--- there is one; otherwise it is zero
-abbrev pub standsb : ℕ → ℕ → ℕ → ℕ → Stretch → Stretch → Bool
-standsb H n count i before here =
+-- `here` may be in place i, behind `before`, where so many places are in use: in use it is a proper stretch and may follow the
+-- one before it, if there is one; otherwise it is zero
+abbrev pub inPlaceOkb : ℕ → ℕ → ℕ → ℕ → Stretch → Stretch → Bool
+inPlaceOkb H n count i before here =
     cond (ltb i count) (stretchOkb H n here && (eqb i 0 || followsb before here)) (blankb here)
 
 -- the same of place i of a record
 unfoldable pub placeOkb : ℕ → ℕ → Record → ℕ → Bool
-placeOkb H n r i = standsb H n (r .count) i (place r (i - 1)) (place r i)
+placeOkb H n r i = inPlaceOkb H n (r .count) i (place r (i - 1)) (place r i)
 
 -- `Proper`
 unfoldable pub properb : ℕ → ℕ → Record → Bool

@@ -8,7 +8,7 @@ ghost use Rattle.base.specs.Masks.{all};
 ghost use Rattle.record.specs.Pairs.{noPair, both};
 ghost use Rattle.record.specs.Stretches.{samePair, touches};
 ghost use Rattle.record.specs.Records.{blank, place, inside, pairIn, pairsAt, pairOkb, stretchOkb, followsb, blankb};
-ghost use Rattle.record.specs.Records.{standsb, placeOkb, properb};
+ghost use Rattle.record.specs.Records.{inPlaceOkb, placeOkb, properb};
 ghost use Rattle.record.specs.Building.{emptyRecord, overfull, appended, joined, pushed};
 
 // The sure and the possible states at an age.
@@ -181,7 +181,7 @@ fn is_blank(x: Stretch) -> bool
     pair.possible == 0
 }
 
-// The place before place i; before the first there is none, and it stands for itself.
+// The place before place i; there is none before place 0, for which 0 is answered.
 fn place_before(i: u8) -> u8
     ensures { λ x. ⌜ x ≡ i - 1 ⌝ }
 {
@@ -191,9 +191,10 @@ fn place_before(i: u8) -> u8
     i - 1
 }
 
-// Place i of a record of that count: in use it is a proper stretch and may follow the one before it; otherwise it is zero.
+// Place i of a record of that count, behind the place before it: in use it is a proper stretch and may follow that one; otherwise it
+// is zero.
 fn place_ok(horizon: u32, states: u8, count: u8, i: u8, before: Stretch, here: Stretch) -> bool
-    ensures { λ x. ⌜ x ≡ standsb horizon states count i before here ⌝ }
+    ensures { λ x. ⌜ x ≡ inPlaceOkb horizon states count i before here ⌝ }
 {
     if count <= i {
         return is_blank(here);

@@ -1,5 +1,5 @@
-//! A watch as one would write it by hand, with nothing proved: what the proved `watch` is measured against. It prints
-//! the same bytes for every input.
+//! A watch as one would write it by hand, with nothing proved: what the proved `watch` is measured against. It is to print
+//! the same bytes for every input. It shares no code with the second program, which it is compared with.
 
 #![no_main]
 

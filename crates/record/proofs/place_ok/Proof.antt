@@ -1,4 +1,4 @@
--- `record::place_ok` asks what `standsb` asks, in its order. Assumes nothing.
+-- `record::place_ok` asks what `inPlaceOkb` asks, in its order. Assumes nothing.
 use borrow.Author.Needs.{needs}
 use Rattle.base.proofs.Rules.{tests}
 use Rattle.record.proofs.place_ok.Statement.{statement}
