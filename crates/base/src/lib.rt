@@ -1,4 +1,6 @@
 // Sets of states as masks, bit i for state i.
+#![tactic(auto)]
+
 ghost use Rattle.std.specs.Prelude.{◌≡◌};
 ghost use Rattle.base.specs.Masks.{past_states};
 
