@@ -2,6 +2,8 @@
 // come first, in their order, and what fails one is refused with its number. Under the checks of a letter, a span and a gap lie
 // their steps, for a caller that knows its table and its record to pass 1 to 8; a start's is that of `spans`, a question's those of
 // `verdicts`.
+#![tactic(auto)]
+
 ghost use Rattle.std.specs.Prelude.{◌≡◌, ◌&&◌, not, leb};
 ghost use Rattle.base.specs.Checks.{◌if◌};
 ghost use Rattle.record.specs.Records.{blank_record, properb};

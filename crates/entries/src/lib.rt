@@ -1,4 +1,6 @@
 // The entries of a session: what stands at a place of its bytes. Every slice and every place is answered.
+#![tactic(auto)]
+
 ghost use Rattle.std.specs.Prelude.{◌≤◌, ◌≡◌};
 ghost use Rattle.entries.specs.Entries.{is_entry, got, read_at};
 

@@ -1,5 +1,7 @@
 // Whether a slice of bytes is a table: the number of the first check that fails, 1 to 7, or 0. The slice may have any length
 // and any content, and nothing is written.
+#![tactic(auto)]
+
 ghost use Rattle.std.specs.Prelude.{◌≡◌};
 ghost use Rattle.base.specs.Checks.{first_of};
 ghost use Rattle.table.specs.Table.{line_at};

@@ -1,6 +1,8 @@
 // The library for a controller's firmware: each call and each question by C's calling convention, under a name with a prefix.
 // Thin: each hands on what it is handed, and answers as `calls` does. An enum does not cross to C, so what a question is told
 // crosses as a number. A table crosses as a pointer and a length, a record by value; include/hassljung.h has the C side.
+#![tactic(auto)]
+
 ghost use Rattle.std.specs.Prelude.{◌≡◌};
 ghost use Rattle.calls.specs.Calls.{start_of, letter_of, span_of, gap_of, verdict_of, settled_of, count_of};
 ghost use Rattle.verdicts.specs.Said.{verdict_case};

@@ -1,5 +1,7 @@
 // Where a letter leads from the pair of an age, and up to which age it leads to the same states, so that ages can be taken a
 // piece at a time.
+#![tactic(auto)]
+
 ghost use Rattle.std.specs.Prelude.{◌<◌, min, ◌≡◌};
 ghost use Rattle.base.specs.Masks.{hasb};
 ghost use Rattle.meaning.specs.Tables.{table_of};

@@ -1,5 +1,7 @@
 // The record after a letter, for a table and a record that are known to pass the checks. Ages are taken a piece at a time: as
 // far as they have one pair and the same lines of the letter hold.
+#![tactic(auto)]
+
 ghost use Rattle.std.specs.Prelude.{suc, ◌≤◌, ◌<◌, max, ◌≡◌};
 ghost use Rattle.meaning.specs.Tables.{table_of};
 ghost use Rattle.faults.specs.Sound.{Sound};

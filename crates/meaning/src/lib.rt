@@ -1,5 +1,7 @@
 // The horizon of a table: the age above which no line tells one age from another. Every slice is answered, also one that is
 // no table: its lines are read as `table` reads them.
+#![tactic(auto)]
+
 ghost use Rattle.std.specs.Prelude.{max, ◌≡◌};
 ghost use Rattle.meaning.specs.Tables.{table_of, line_top, horizon};
 

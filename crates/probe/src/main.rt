@@ -14,6 +14,8 @@
 // document 01's table, whole and cut to 11 bytes, with the records of a start, of a gap, and of a gap past H; and of its
 // session: entries 0 to 6, the questions after entries 0, 3 and 6, the refusals of entries 10 and 11 and, with room 1, of
 // entry 3. The answers in the file stdout are worked out from the document.
+#![tactic(auto)]
+
 ghost use Rattle.std.specs.Prelude.{◌+◌, ◌≤◌, ◌≡◌, length};
 
 use calls::{Answer, CountReply, SettledReply, VerdictReply};

@@ -1,5 +1,7 @@
 // The reader: it keeps the session and the place reached in it. Thin: it takes itself apart and leaves the work to
 // `entries::read_at`, which takes a plain slice. A program uses `entry_at`, whose parameters are plain.
+#![tactic(auto)]
+
 ghost use Rattle.std.specs.Prelude.{◌≡◌};
 ghost use Rattle.entries.specs.Entries.{read_at};
 

@@ -1,6 +1,8 @@
 // The record of a watch: what it holds of the ages 0 to H, as stretches, and of all ages above H. Whether a record is proper,
 // what it says of an age, and how one is built stretch by stretch. Every value is answered: a record may come from elsewhere
 // and hold anything. Sets of states have bit i for state i.
+#![tactic(auto)]
+
 ghost use Rattle.std.specs.Prelude.{◌-◌, ◌≤◌, ◌<◌, ◌≡◌, replicate};
 ghost use Rattle.base.specs.Masks.{all};
 ghost use Rattle.record.specs.Pairs.{no_pair, both};

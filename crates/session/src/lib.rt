@@ -1,5 +1,7 @@
 // A whole session: from the bytes that the program reads to the bytes that it prints. The table is checked once, at the start;
 // from then on the record is known to be proper, and the entries take the steps under the calls' checks.
+#![tactic(auto)]
+
 ghost use Rattle.std.specs.Prelude.{◌≤◌, ◌+◌, ◌≡◌, true, length, take};
 ghost use Rattle.io.specs.Counts.{IsPrefixLen};
 ghost use Rattle.image.specs.Known.{Known};

@@ -1,4 +1,6 @@
 // The record at a start, at a gap and after a span, for a table and a record that are known to pass the checks.
+#![tactic(auto)]
+
 ghost use Rattle.std.specs.Prelude.{ℕ, ◌+◌, ◌-◌, ◌^◌, ◌≤◌, ◌<◌, ◌≡◌};
 ghost use Rattle.meaning.specs.Tables.{table_of, horizon as horizonOf};
 ghost use Rattle.faults.specs.Sound.{Sound};

@@ -1,6 +1,8 @@
 // Reads a table of bytes: its head, and its lines one by one. Nothing is judged: a number out of its range is read as any
 // other. Every slice is answered: where the bytes of the head or of a line are not all there, each of its places reads 0,
 // also those whose bytes are there.
+#![tactic(auto)]
+
 ghost use Rattle.std.specs.Prelude.{◌≡◌};
 ghost use Rattle.table.specs.Numbers.{be16_of, be32_of};
 ghost use Rattle.table.specs.Table.{no_head, no_line, head_of, line_at};

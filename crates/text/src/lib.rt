@@ -1,5 +1,7 @@
 // The lines that the program prints, written into a lent buffer: numbers in decimal, and fixed byte strings between them. Each
 // function writes from a place on and answers the place behind what it wrote; what stands before that place stays.
+#![tactic(auto)]
+
 ghost use Rattle.std.specs.Prelude.{◌+◌, ◌≤◌, length};
 ghost use Rattle.verdicts.specs.Said.{verdict_case};
 ghost use Rattle.text.specs.Text.{decimal, verdict_word, settled_word, last_word, line_text, refusal_text, Wrote};

@@ -1,4 +1,6 @@
 // What a record that is proper says: the verdict, and whether it is settled.
+#![tactic(auto)]
+
 ghost use Rattle.std.specs.Prelude.{ℕ, ◌≤◌, ◌≡◌};
 ghost use Rattle.meaning.specs.Tables.{table_of, horizon};
 ghost use Rattle.record.specs.Records.{pairs_at, Proper};
