@@ -18,26 +18,26 @@ use verdicts::Verdict;
 // What start, letter, span and gap answer: 0 with the new record, or the number of the first check that failed with the
 // record as it was handed in; a refused start has a record of all zeros.
 #[repr(C)]
-#[derive(Drop)]
+#[derive(Clone, Copy)]
 pub struct Answer {
     pub number: u8,
     pub next: Record,
 }
 
 // What a question answers: what was asked, or the number of the first check that failed and nothing else.
-#[derive(Drop)]
+#[derive(Clone, Copy)]
 pub enum VerdictReply {
     Refused(u8),
     Told(Verdict),
 }
 
-#[derive(Drop)]
+#[derive(Clone, Copy)]
 pub enum SettledReply {
     Refused(u8),
     Told(bool),
 }
 
-#[derive(Drop)]
+#[derive(Clone, Copy)]
 pub enum CountReply {
     Refused(u8),
     Told(u8),

@@ -5,7 +5,7 @@ ghost use Rattle.std.specs.Prelude.{◌≤◌, ◌≡◌};
 ghost use Rattle.entries.specs.Entries.{is_entry, got, read_at};
 
 // A letter, so many seconds, or a gap. Nothing is judged: a letter or a span out of its range is read as any other.
-#[derive(Drop)]
+#[derive(Clone, Copy)]
 pub enum Symbol {
     Letter(u8),
     Span(u32),
@@ -13,7 +13,7 @@ pub enum Symbol {
 }
 
 // The first entry of a session has the ordinal 1.
-#[derive(Drop)]
+#[derive(Clone, Copy)]
 pub struct Entry {
     pub ordinal: u16,
     pub symbol: Symbol,
@@ -21,7 +21,7 @@ pub struct Entry {
 
 // `Got` has the entry and the place behind it. `Unreadable` is an entry that is cut short, of an unknown kind, or with a
 // length that is not its kind's; also what is read past the end.
-#[derive(Drop)]
+#[derive(Clone, Copy)]
 pub enum Read {
     Got(Entry, usize),
     Unreadable,

@@ -14,21 +14,21 @@ use verdicts::Verdict;
 
 // What a question answers: 0 and what was asked, or the number of the first check that failed and nothing else, which is 0.
 #[repr(C)]
-#[derive(Drop)]
+#[derive(Clone, Copy)]
 pub struct VerdictAnswer {
     pub number: u8,
     pub verdict: u8,
 }
 
 #[repr(C)]
-#[derive(Drop)]
+#[derive(Clone, Copy)]
 pub struct SettledAnswer {
     pub number: u8,
     pub settled: bool,
 }
 
 #[repr(C)]
-#[derive(Drop)]
+#[derive(Clone, Copy)]
 pub struct CountAnswer {
     pub number: u8,
     pub count: u8,

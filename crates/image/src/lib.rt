@@ -50,7 +50,7 @@ fn led_pair(l: Line, p: Pair) -> Pair
 // ---- a piece of ages
 
 // The ages from one on up to `end`, at all of which the letter leads to the same states, `led`.
-#[derive(Drop)]
+#[derive(Clone, Copy)]
 pub struct Piece {
     pub end: u32,
     pub led: Pair,

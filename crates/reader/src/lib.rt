@@ -7,7 +7,7 @@ ghost use Rattle.entries.specs.Entries.{read_at};
 
 use entries::Read;
 
-#[derive(Drop)]
+#[derive(Clone, Copy)]
 pub struct Reader<'a> {
     pub src: &'a [u8],
     pub at: usize,

@@ -13,7 +13,7 @@ ghost use Rattle.record.specs.Building.{empty_record, overfull, appended, joined
 
 // The sure and the possible states at an age.
 #[repr(C)]
-#[derive(Drop)]
+#[derive(Clone, Copy)]
 pub struct Pair {
     pub sure: u16,
     pub possible: u16,
@@ -21,7 +21,7 @@ pub struct Pair {
 
 // The ages from first to last, both in, which have one pair.
 #[repr(C)]
-#[derive(Drop)]
+#[derive(Clone, Copy)]
 pub struct Stretch {
     pub first: u32,
     pub last: u32,
@@ -30,7 +30,7 @@ pub struct Stretch {
 
 // The stretches are the first `count` of the places; `above` is the pair of all ages above H.
 #[repr(C)]
-#[derive(Drop)]
+#[derive(Clone, Copy)]
 pub struct Record {
     pub room: u8,
     pub count: u8,

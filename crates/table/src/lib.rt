@@ -8,7 +8,7 @@ ghost use Rattle.table.specs.Numbers.{be16_of, be32_of};
 ghost use Rattle.table.specs.Table.{no_head, no_line, head_of, line_at};
 
 // The first 12 bytes. The sets of states, initial, standing and accepting, have bit i for state i.
-#[derive(Drop)]
+#[derive(Clone, Copy)]
 pub struct Head {
     pub version: u8,
     pub length: u16,
@@ -22,7 +22,7 @@ pub struct Head {
 
 // From a state to a state on a letter, at the ages from least to greatest, both in. A greatest of 4,294,967,295 means no
 // upper bound; flag 1 resets the clock.
-#[derive(Drop)]
+#[derive(Clone, Copy)]
 pub struct Line {
     pub from: u8,
     pub letter: u8,

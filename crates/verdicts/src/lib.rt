@@ -10,7 +10,7 @@ ghost use Rattle.verdicts.specs.Said.{verdict_case, accepted_of, accepted_in, se
 use record::{Pair, Record};
 
 // `Unsure` means that neither yes nor no would be right for every set that may have stood at the gap's end.
-#[derive(Drop)]
+#[derive(Clone, Copy)]
 pub enum Verdict {
     Yes,
     No,
