@@ -1,0 +1,65 @@
+-- `entries::read_at`: what was asked says how far the bytes go, and the answers are the definition's. Assumes nothing.
+use Prim.Native.Nat.{◌+◌, ◌<◌}
+use mathlib.Core.Path.{sym, ◌∙◌}
+use native.Mathlib.Omega.{arith}
+use lib.ListN.{length}
+use Rattle.std.proofs.Common.{rules}
+use Rattle.base.proofs.Rules.{tests}
+use Rattle.entries.specs.Entries.{read_at}
+use Rattle.entries.proofs.Laws.{entry_within}
+use Rattle.entries.proofs.read_at.Goals as goal
+
+pub overflow_add-at : goal.overflow_add-at
+overflow_add-at c = ?
+
+pub bounds-s-at : goal.bounds-s-at
+bounds-s-at c = ?
+
+pub overflow_add-at-then-letter : goal.overflow_add-at-then-letter
+overflow_add-at-then-letter c = ?
+
+pub returns-then-letter : goal.returns-then-letter
+unfolding read_at
+returns-then-letter c = ?
+
+pub overflow_add-at-then-span : goal.overflow_add-at-then-span
+overflow_add-at-then-span c = ?
+
+pub bounds-s-at-then-span : goal.bounds-s-at-then-span
+bounds-s-at-then-span c = ?
+
+pub overflow_add-at-then-span-2 : goal.overflow_add-at-then-span-2
+overflow_add-at-then-span-2 c = ?
+
+pub bounds-s-at-then-span-2 : goal.bounds-s-at-then-span-2
+bounds-s-at-then-span-2 c = ?
+
+pub overflow_add-at-then-span-3 : goal.overflow_add-at-then-span-3
+overflow_add-at-then-span-3 c = ?
+
+pub bounds-s-at-then-span-3 : goal.bounds-s-at-then-span-3
+bounds-s-at-then-span-3 c = ?
+
+pub overflow_add-at-then-span-4 : goal.overflow_add-at-then-span-4
+overflow_add-at-then-span-4 c = ?
+
+pub bounds-s-at-then-span-4 : goal.bounds-s-at-then-span-4
+bounds-s-at-then-span-4 c = ?
+
+pub overflow_add-at-then-span-5 : goal.overflow_add-at-then-span-5
+overflow_add-at-then-span-5 c = ?
+
+pub returns-then-span : goal.returns-then-span
+unfolding read_at
+returns-then-span c = ?
+
+pub overflow_add-at-then-gap : goal.overflow_add-at-then-gap
+overflow_add-at-then-gap c = ?
+
+pub returns-then-gap : goal.returns-then-gap
+unfolding read_at
+returns-then-gap c = ?
+
+pub returns : goal.returns
+unfolding read_at
+returns c = search tests

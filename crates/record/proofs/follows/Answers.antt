@@ -1,0 +1,13 @@
+-- `record::follows` meets its contract: y begins within x, past the age behind it, or at that age. Assumes nothing.
+use Rattle.std.proofs.Common.{rules}
+use Rattle.record.proofs.Asked.{follows-low, follows-apart, follows_next}
+use Rattle.record.proofs.follows.Goals as goal
+
+pub returns-then-y-x : goal.returns-then-y-x
+returns-then-y-x c = ?
+
+pub returns-then-x-y : goal.returns-then-x-y
+returns-then-x-y c = ?
+
+pub returns : goal.returns
+returns c = follows-low _ _ (search rules)

@@ -1,0 +1,25 @@
+-- `record::push` asks what `pushed` asks, in its order. Assumes nothing.
+use Rattle.std.proofs.Common.{rules}
+use Rattle.base.proofs.Rules.{tests}
+use Rattle.record.specs.Building.{pushed}
+use Rattle.record.proofs.push.Goals as goal
+
+pub returns-then-p-eq0 : goal.returns-then-p-eq0
+unfolding pushed
+returns-then-p-eq0 c = ?
+
+pub returns-then-r-gt64 : goal.returns-then-r-gt64
+unfolding pushed
+returns-then-r-gt64 c = ?
+
+pub returns-then-r-eq0 : goal.returns-then-r-eq0
+unfolding pushed
+returns-then-r-eq0 c = ?
+
+pub returns-then-on : goal.returns-then-on
+unfolding pushed
+returns-then-on c = ?
+
+pub returns : goal.returns
+unfolding pushed
+returns c = search tests
