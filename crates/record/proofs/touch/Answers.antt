@@ -4,10 +4,10 @@ use Rattle.record.proofs.Asked.{touches-low, touches-apart, touches-next}
 use Rattle.record.proofs.touch.Goals as goal
 
 pub returns-then-a-x : goal.returns-then-a-x
-returns-then-a-x c = ?
+returns-then-a-x c = touches-low _ _ _ (search rules)
 
 pub returns-then-x-a : goal.returns-then-x-a
-returns-then-x-a c = ?
+returns-then-x-a c = touches-apart _ _ _ (search rules)
 
 pub returns : goal.returns
-returns c = touches-low _ _ _ (search rules)
+returns c = touches-next _ _ _ _ (search rules) (search rules) (search rules)
