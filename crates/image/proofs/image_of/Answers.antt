@@ -1,9 +1,7 @@
--- `image::image_of` is where a piece leads; from no state no line leads. Assumes nothing.
-use mathlib.Core.Path.{ap}
-use Rattle.std.proofs.Common.{rules}
-use Rattle.image.specs.declared.Piece.{Piece}
+-- A pair of two empty sets leads nowhere; of any other the piece says where the letter leads.
 use Rattle.image.proofs.Laws.{image-nothing}
 use Rattle.image.proofs.image_of.Goals as goal
 
 pub returns-then-nothing : goal.returns-then-nothing
-returns-then-nothing c = ?
+returns-then-nothing c =
+    image-nothing _ _ _ _ _ _ _ c.no_pair-none.ensures c.same_pair-nothing.ensures c.if-nothing.true

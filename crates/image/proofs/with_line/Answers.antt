@@ -19,7 +19,7 @@ returns-then-age-l c =
     let a = c.args in
     c.up_to.ensures
     ∙ line_ahead a.so_far a.l a.reset a.letter a.age a.p (search tests) (search rules) (search rules) _
-    c.smaller-end.ensures
+    c.smaller.ensures
 
 pub returns-then-l-age : goal.returns-then-l-age
 unfolding piece_with
@@ -30,4 +30,4 @@ returns c =
     let a = c.args in
     c.up_to-2.ensures
     ∙ line_held a.so_far a.l a.reset a.letter a.age a.p (search tests) (search rules)
-    (search rules) (search rules) _ _ _ c.smaller-end-2.ensures c.led_pair-more.ensures c.both-led.ensures
+    (search rules) (search rules) _ _ _ c.smaller-2.ensures c.led_pair-more.ensures c.both-both.ensures
