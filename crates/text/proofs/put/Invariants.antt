@@ -1,0 +1,14 @@
+-- `text::put`: what is written so far is a copy of the word's first i bytes. Assumes nothing.
+use Prim.Native.Nat.{◌-◌, ◌≤◌}
+use mathlib.Core.Path.{◌≡◌}
+use native.Mathlib.Omega.{arith}
+use lib.ListN.{length}
+use lib.Seq.{paste, paste-zero}
+use Rattle.text.proofs.Laws.{copy_next, copy_done}
+use Rattle.text.proofs.put.Given as goal
+
+abbrev pub invariant-loop : goal.invariant-loop
+invariant-loop l = (l.i ≤ length l.word) × (length l.out ≡ length l.initial.out) × (l.out ≡ paste l.initial.out l.at l.word l.i)
+
+abbrev pub decreases-loop : goal.decreases-loop
+decreases-loop l = length l.word - l.i
