@@ -7,8 +7,8 @@ use lib.Seq.{paste, paste-zero}
 use Rattle.text.proofs.Laws.{copy_next, copy_done}
 use Rattle.text.proofs.put.Given as goal
 
-abbrev pub invariant-loop : goal.invariant-loop
-invariant-loop l = (l.i ≤ length l.word) × (length l.out ≡ length l.initial.out) × (l.out ≡ paste l.initial.out l.at l.word l.i)
+abbrev pub invariant-loop-i : goal.invariant-loop-i
+invariant-loop-i l = (l.i ≤ length l.word) × (length l.out ≡ length l.initial.out) × (l.out ≡ paste l.initial.out l.at l.word l.i)
 
-abbrev pub decreases-loop : goal.decreases-loop
-decreases-loop l = length l.word - l.i
+abbrev pub decreases-loop-i : goal.decreases-loop-i
+decreases-loop-i l = length l.word - l.i
