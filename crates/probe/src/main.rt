@@ -10,6 +10,8 @@
 // Kinds 7 to 9, the questions verdict, settled and count: a record and a table. Answer: the number, and a byte: 1 for yes, 2
 // for no, 3 for unsure; 1 for settled, 0 for open; the count; 0 where it is refused.
 //
+// A read or a write that fails is said on standard error, and makes the status 1.
+//
 // Numbers are big-endian. What is read and written is tested and not proved. The cases in the file stdin beside src/ are of
 // document 01's table, whole and cut to 11 bytes, with the records of a start, of a gap, and of a gap past H; and of its
 // session: entries 0 to 6, the questions after entries 0, 3 and 6, the refusals of entries 10 and 11 and, with room 1, of
@@ -20,6 +22,8 @@ ghost use Rattle.std.specs.Prelude.{◌+◌, ◌≤◌, ◌≡◌, length};
 
 use calls::{Answer, CountReply, SettledReply, VerdictReply};
 use record::{Pair, Record, Stretch};
+use std::io;
+use std::io::{ErrorKind, Read, Write};
 use verdicts::Verdict;
 
 // 131,072 zeros.
@@ -56,11 +60,9 @@ fn record_from(s: &[u8]) -> Record
     let above = pair_from(s, 770);
     let mut r = record::empty_record(s[0], above);
     r.count = s[1];
-    let mut i = 0;
-    while i < 64 {
+    for i in 0..64 {
         let x = stretch_from(s, 2 + 12 * i);
         r.places[i] = x;
-        i += 1;
     }
     r
 }
@@ -102,32 +104,30 @@ fn put_record(out: &mut [u8], at: usize, r: Record)
 {
     out[at] = r.room;
     out[at + 1] = r.count;
-    let mut i = 0;
-    while i < 64 {
+    for i in 0..64 {
         let x = r.places[i];
         put_stretch(out, at + 2 + 12 * i, x);
-        i += 1;
     }
     let above = r.above;
     put_pair(out, at + 770, above);
 }
 
-// ---- the answers
+// ---- the answers. Each is written; what answers a `bool` says whether the case could be read.
 
-fn write_answer(a: Answer) -> bool {
+fn write_answer(output: &mut impl Write, a: Answer) -> io::Result<()> {
     let mut out = [0u8; 775];
     out[0] = a.number;
     let next = a.next;
     put_record(&mut out, 1, next);
-    io::write_all(libc::STDOUT_FILENO, &out)
+    output.write_all(&out)
 }
 
-fn write_two(number: u8, value: u8) -> bool {
+fn write_two(output: &mut impl Write, number: u8, value: u8) -> io::Result<()> {
     let out = [number, value];
-    io::write_all(libc::STDOUT_FILENO, &out)
+    output.write_all(&out)
 }
 
-fn answer_table(t: &[u8]) -> bool {
+fn answer_table(output: &mut impl Write, t: &[u8]) -> io::Result<()> {
     let number = faults::table_fault(t);
     let mut horizon = 0;
     if number == 0 {
@@ -136,128 +136,132 @@ fn answer_table(t: &[u8]) -> bool {
     let mut out = [0u8; 5];
     out[0] = number;
     put_32(&mut out, 1, horizon);
-    io::write_all(libc::STDOUT_FILENO, &out)
+    output.write_all(&out)
 }
 
-fn answer_record(r: Record, t: &[u8]) -> bool {
+fn answer_record(output: &mut impl Write, r: Record, t: &[u8]) -> io::Result<()> {
     let out = [calls::record_fault(t, r)];
-    io::write_all(libc::STDOUT_FILENO, &out)
+    output.write_all(&out)
 }
 
-fn answer_start(s: &[u8]) -> bool {
+fn answer_start(output: &mut impl Write, s: &[u8]) -> io::Result<bool> {
     if s.len() < 1 {
-        return false;
+        return Ok(false);
     }
-    write_answer(calls::start(&s[1..], s[0]))
+    write_answer(output, calls::start(&s[1..], s[0]))?;
+    Ok(true)
 }
 
-fn answer_letter(r: Record, s: &[u8]) -> bool {
+fn answer_letter(output: &mut impl Write, r: Record, s: &[u8]) -> io::Result<bool> {
     if s.len() < 1 {
-        return false;
+        return Ok(false);
     }
-    write_answer(calls::letter(&s[1..], r, s[0]))
+    write_answer(output, calls::letter(&s[1..], r, s[0]))?;
+    Ok(true)
 }
 
-fn answer_span(r: Record, s: &[u8]) -> bool {
+fn answer_span(output: &mut impl Write, r: Record, s: &[u8]) -> io::Result<bool> {
     if s.len() < 4 {
-        return false;
+        return Ok(false);
     }
     let seconds = table::be32(s[0], s[1], s[2], s[3]);
-    write_answer(calls::span(&s[4..], r, seconds))
+    write_answer(output, calls::span(&s[4..], r, seconds))?;
+    Ok(true)
 }
 
-fn answer_verdict(r: Record, t: &[u8]) -> bool {
+fn answer_verdict(output: &mut impl Write, r: Record, t: &[u8]) -> io::Result<()> {
     match calls::verdict(t, r) {
-        VerdictReply::Refused(number) => write_two(number, 0),
+        VerdictReply::Refused(number) => write_two(output, number, 0),
         VerdictReply::Told(verdict) => match verdict {
-            Verdict::Yes => write_two(0, 1),
-            Verdict::No => write_two(0, 2),
-            Verdict::Unsure => write_two(0, 3),
+            Verdict::Yes => write_two(output, 0, 1),
+            Verdict::No => write_two(output, 0, 2),
+            Verdict::Unsure => write_two(output, 0, 3),
         },
     }
 }
 
-fn answer_settled(r: Record, t: &[u8]) -> bool {
+fn answer_settled(output: &mut impl Write, r: Record, t: &[u8]) -> io::Result<()> {
     match calls::settled(t, r) {
-        SettledReply::Refused(number) => write_two(number, 0),
-        SettledReply::Told(same) => write_two(0, same as u8),
+        SettledReply::Refused(number) => write_two(output, number, 0),
+        SettledReply::Told(same) => write_two(output, 0, same as u8),
     }
 }
 
-fn answer_count(r: Record, t: &[u8]) -> bool {
+fn answer_count(output: &mut impl Write, r: Record, t: &[u8]) -> io::Result<()> {
     match calls::count(t, r) {
-        CountReply::Refused(number) => write_two(number, 0),
-        CountReply::Told(count) => write_two(0, count),
+        CountReply::Refused(number) => write_two(output, number, 0),
+        CountReply::Told(count) => write_two(output, 0, count),
     }
 }
 
 // A case that has a record, and what is behind it.
-fn answer_held(kind: u8, r: Record, s: &[u8]) -> bool {
-    if kind == 2 {
-        return answer_record(r, s);
+fn answer_held(output: &mut impl Write, kind: u8, r: Record, s: &[u8]) -> io::Result<bool> {
+    match kind {
+        2 => answer_record(output, r, s)?,
+        4 => return answer_letter(output, r, s),
+        5 => return answer_span(output, r, s),
+        6 => write_answer(output, calls::gap(s, r))?,
+        7 => answer_verdict(output, r, s)?,
+        8 => answer_settled(output, r, s)?,
+        9 => answer_count(output, r, s)?,
+        _ => return Ok(false),
     }
-    if kind == 4 {
-        return answer_letter(r, s);
-    }
-    if kind == 5 {
-        return answer_span(r, s);
-    }
-    if kind == 6 {
-        return write_answer(calls::gap(s, r));
-    }
-    if kind == 7 {
-        return answer_verdict(r, s);
-    }
-    if kind == 8 {
-        return answer_settled(r, s);
-    }
-    if kind == 9 {
-        return answer_count(r, s);
-    }
-    false
+    Ok(true)
 }
 
-fn answer_kind(kind: u8, s: &[u8]) -> bool {
+fn answer_kind(output: &mut impl Write, kind: u8, s: &[u8]) -> io::Result<bool> {
     if kind == 1 {
-        return answer_table(s);
+        answer_table(output, s)?;
+        return Ok(true);
     }
     if kind == 3 {
-        return answer_start(s);
+        return answer_start(output, s);
     }
     if s.len() < 774 {
-        return false;
+        return Ok(false);
     }
     let r = record_from(s);
-    answer_held(kind, r, &s[774..])
+    answer_held(output, kind, r, &s[774..])
+}
+
+// ---- the cases
+
+// Fills `part` from the input: whether the input had enough for it.
+fn filled(input: &mut impl Read, part: &mut [u8]) -> io::Result<bool> {
+    match input.read_exact(part) {
+        Ok(()) => Ok(true),
+        Err(e) if e.kind() == ErrorKind::UnexpectedEof => Ok(false),
+        Err(e) => Err(e),
+    }
 }
 
 // One case, read into space: whether it was read and answered.
-fn answer_case(space: &mut [u8]) -> bool {
+fn answer_case(
+    input: &mut impl Read,
+    output: &mut impl Write,
+    space: &mut [u8],
+) -> io::Result<bool> {
     let mut head = [0u8; 5];
-    let got = io::read_full(libc::STDIN_FILENO, &mut head);
-    if got < 5 {
-        return false;
+    if !filled(input, &mut head)? {
+        return Ok(false);
     }
     let n = table::be32(head[1], head[2], head[3], head[4]) as usize;
     if space.len() < n {
-        return false;
+        return Ok(false);
     }
     let part = &mut space[..n];
-    let read = io::read_full(libc::STDIN_FILENO, part);
-    if read < n {
-        return false;
+    if !filled(input, part)? {
+        return Ok(false);
     }
-    answer_kind(head[0], part)
+    answer_kind(output, head[0], part)
 }
 
-fn main() {
+fn main(rt: HostRuntime) -> io::Result<()> {
     let mut buffer = case_buffer();
-    let mut left: u32 = 4_294_967_295;
-    while 0 < left {
-        let on = answer_case(&mut buffer);
-        if !on {
-            return;
+    for _ in 0..u32::MAX {
+        if !answer_case(&mut rt.stdin(), &mut rt.stdout(), &mut buffer)? {
+            break;
         }
-        left -= 1;
     }
+    Ok(())
 }
