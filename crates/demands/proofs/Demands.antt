@@ -20,7 +20,7 @@ use Rattle.faults.proofs.Laws.{sound-closed}
 use Rattle.record.specs.declared.Stretch.{Stretch}
 use Rattle.record.specs.declared.Record.{Record}
 use Rattle.record.specs.Pairs.{Pairs}
-use Rattle.record.specs.Verdicts.{Verdict, unsure, verdict_at, settled_at}
+use Rattle.record.specs.Verdicts.{Verdict, verdict_at, settled_at}
 use Rattle.record.specs.Stretches.{stretches_of}
 use Rattle.record.specs.Records.{blank, record_of}
 use Rattle.record.proofs.Longest.{stretches_longest}

@@ -1,6 +1,6 @@
 -- The worked session comes out (`the_worked_session`), also to its end in room 1 (`goes-on-in-room-1`), and so does a session of
 -- another table (`the-pump`), by computation. Assumes nothing.
-use Prim.Native.Nat.{ℕ, ◌+◌}
+use Prim.Native.Nat.{ℕ}
 use Prim.Native.String.{String}
 use mathlib.Core.Path.{◌≡◌, refl}
 use mathlib.Core.List.{List, [], ◌∷◌, ◌++◌, map}

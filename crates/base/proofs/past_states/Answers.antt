@@ -1,5 +1,5 @@
 -- Below 16 it is the test itself, and from 16 on nothing of 16 bits is left.
-use Rattle.std.proofs.Common.{rules, sym}
+use Rattle.std.proofs.Common.{sym}
 use Rattle.base.proofs.Masks.{past_none}
 use Rattle.base.proofs.past_states.Goals as goal
 

@@ -1,6 +1,5 @@
 -- `calls::count` is its checks and the record's own count, by `count_held`. Assumes nothing.
 use mathlib.Core.Path.{sym, ◌∙◌}
-use Rattle.std.proofs.Common.{rules}
 use Rattle.calls.specs.Calls.{count_of}
 use Rattle.calls.proofs.Laws.{count_held}
 use Rattle.calls.proofs.Steps.{ask_refused}

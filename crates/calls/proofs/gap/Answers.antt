@@ -1,6 +1,5 @@
 -- `calls::gap` is its checks and its step. Assumes nothing.
 use mathlib.Core.Path.{sym, ◌∙◌}
-use Rattle.std.proofs.Common.{rules}
 use Rattle.calls.proofs.Steps.{gap_call, call-refused, call-passed, known}
 use Rattle.calls.proofs.gap.Goals as goal
 

@@ -1,6 +1,5 @@
 -- `calls::gap_step` meets its contract: the record of a gap, in the room of the one handed in. Assumes nothing.
 use mathlib.Core.Path.{◌∙◌}
-use Rattle.std.proofs.Common.{rules}
 use Rattle.calls.proofs.Steps.{gap_held}
 use Rattle.calls.proofs.gap_step.Goals as goal
 

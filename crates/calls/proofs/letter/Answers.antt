@@ -1,6 +1,5 @@
 -- `calls::letter` is its checks and its step. Assumes nothing.
 use mathlib.Core.Path.{sym, ◌∙◌}
-use Rattle.std.proofs.Common.{rules}
 use Rattle.calls.proofs.Steps.{letter_call, call-refused, call-passed, known}
 use Rattle.calls.proofs.letter.Goals as goal
 

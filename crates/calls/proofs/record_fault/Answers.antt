@@ -1,6 +1,5 @@
 -- `calls::record_fault` meets its contract: the table's number comes first, then the record's. Assumes nothing.
 use mathlib.Core.Path.{sym, ap, ◌∙◌}
-use Rattle.std.proofs.Common.{rules}
 use Rattle.base.proofs.Rules.{checks}
 use Rattle.meaning.specs.Tables.{table_of}
 use Rattle.calls.specs.Calls.{record_fault}

@@ -1,7 +1,6 @@
 -- `calls::settled` is its checks and what `is_settled` says. Assumes nothing.
 use mathlib.Core.Path.{◌∙◌}
 use native.Mathlib.Omega.{arith}
-use Rattle.std.proofs.Common.{rules}
 use Rattle.verdicts.proofs.Laws.{settled_in_lem}
 use Rattle.calls.specs.Calls.{settled_of}
 use Rattle.calls.proofs.Steps.{ask_refused, ask_passed, proper-known}

@@ -1,6 +1,5 @@
 -- `calls::start` is its checks and its step. Assumes nothing.
 use mathlib.Core.Path.{sym, ◌∙◌}
-use Rattle.std.proofs.Common.{rules}
 use Rattle.calls.proofs.Laws.{start_fault-iff}
 use Rattle.calls.proofs.Steps.{begin_refused, begin_passed}
 use Rattle.calls.proofs.start.Goals as goal

@@ -1,5 +1,4 @@
 -- `calls::start_fault` asks what `start_fault` asks, in its order. Assumes nothing.
-use Rattle.std.proofs.Common.{rules}
 use Rattle.base.proofs.Rules.{checks}
 use Rattle.calls.specs.Calls.{start_fault}
 use Rattle.calls.proofs.start_fault.Goals as goal

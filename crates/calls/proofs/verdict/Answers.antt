@@ -1,5 +1,4 @@
 -- `calls::verdict` is its checks and what `verdict_of` says. Assumes nothing.
-use Rattle.std.proofs.Common.{rules}
 use Rattle.calls.specs.Calls.{verdict_of}
 use Rattle.calls.proofs.Steps.{ask_refused, ask_passed, proper-known}
 use Rattle.calls.proofs.verdict.Goals as goal

@@ -1,5 +1,4 @@
 -- `faults::bad_ages` asks what `bad_ages` asks, in its order. Assumes nothing.
-use Rattle.std.proofs.Common.{rules}
 use Rattle.base.proofs.Rules.{tests}
 use Rattle.faults.specs.Faults.{bad_ages}
 use Rattle.faults.proofs.bad_ages.Goals as goal

@@ -1,5 +1,4 @@
 -- `faults::bad_length` asks what `bad_length` asks, in its order. Assumes nothing.
-use Rattle.std.proofs.Common.{rules}
 use Rattle.base.proofs.Rules.{tests}
 use Rattle.faults.specs.Faults.{bad_length}
 use Rattle.faults.proofs.bad_length.Goals as goal

@@ -1,5 +1,4 @@
 -- `faults::bad_masks` asks what `bad_masks` asks, in its order. Assumes nothing.
-use Rattle.std.proofs.Common.{rules}
 use Rattle.base.proofs.Rules.{tests}
 use Rattle.faults.specs.Faults.{bad_masks}
 use Rattle.faults.proofs.bad_masks.Goals as goal

@@ -1,5 +1,4 @@
 -- `faults::line_fault` gives the numbers in the order of `line_fault`. Assumes nothing.
-use Rattle.std.proofs.Common.{rules}
 use Rattle.base.proofs.Rules.{checks}
 use Rattle.faults.specs.Faults.{line_fault}
 use Rattle.faults.proofs.line_fault.Goals as goal

@@ -1,10 +1,8 @@
 -- `faults::lines_fault` meets its contract: before line k, none of the lines below k has a number, so that line k's is the first
 -- if it has one; the lines left fall. Assumes nothing.
 use Prim.Native.Nat.{◌+◌}
-use mathlib.Core.Path.{◌≡◌, refl}
-use native.Mathlib.Omega.{arith}
+use mathlib.Core.Path.{◌≡◌}
 use Rattle.base.specs.Checks.{first_of}
-use Rattle.base.proofs.Checks.{first_here, first_on, first_all}
 use Rattle.table.specs.Table.{line_at}
 use Rattle.faults.specs.Faults.{line_fault}
 use Rattle.faults.proofs.lines_fault.Given as goal

@@ -1,13 +1,9 @@
 -- `image::piece_of`: before line k, `out` is the piece of the lines below k; the lines left fall. Assumes nothing.
 use Prim.Native.Nat.{◌-◌, ◌≤◌}
-use mathlib.Core.Path.{◌≡◌, ap, ◌∙◌}
-use native.Mathlib.Omega.{arith}
+use mathlib.Core.Path.{◌≡◌}
 use Rattle.table.specs.Table.{line_at}
-use Rattle.meaning.specs.Tables.{table_of}
 use Rattle.record.specs.Pairs.{together}
-use Rattle.image.specs.declared.Piece.{Piece}
 use Rattle.image.specs.Images.{line_pair, least, line_until}
-use Rattle.image.proofs.Laws.{lines_few, leads_low, end_next, led-next, piece_all}
 use Rattle.image.proofs.piece_of.Given as goal
 
 abbrev pub invariant-loop-k : goal.invariant-loop-k

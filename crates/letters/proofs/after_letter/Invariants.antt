@@ -1,14 +1,11 @@
 -- `letters::after_letter` meets its contract: before place i, `out` is built from the ages below `reached r i`; the places left
 -- fall. Assumes nothing.
-use Prim.Native.Nat.{suc, ◌-◌, ◌≤◌, ◌<◌}
-use mathlib.Core.Path.{◌≡◌, refl}
-use native.Mathlib.Omega.{arith}
-use Rattle.meaning.specs.Tables.{table_of}
+use Prim.Native.Nat.{suc, ◌-◌, ◌≤◌}
+use mathlib.Core.Path.{◌≡◌}
 use Rattle.record.specs.Stretches.{newest}
 use Rattle.record.specs.Building.{held_in}
-use Rattle.image.proofs.Laws.{known-horizon, known-few, known-place}
 use Rattle.letters.specs.Letters.{after_letter}
-use Rattle.letters.proofs.Laws.{reached, kept-begun, kept_above, kept_next, kept-all}
+use Rattle.letters.proofs.Laws.{reached}
 use Rattle.letters.proofs.after_letter.Given as goal
 
 abbrev pub invariant-loop-i : goal.invariant-loop-i

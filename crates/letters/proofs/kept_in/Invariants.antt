@@ -1,11 +1,7 @@
 -- `letters::kept_in` meets its contract: the ages below `age` are pushed, a piece at a time; the ages left fall. Assumes nothing.
 use Prim.Native.Nat.{suc, ◌-◌, ◌≤◌}
-use mathlib.Core.Path.{◌≡◌}
-use native.Mathlib.Omega.{arith}
 use Rattle.meaning.specs.Tables.{table_of}
-use Rattle.image.proofs.Laws.{piece_within}
 use Rattle.letters.specs.Letters.{KeptOn}
-use Rattle.letters.proofs.Laws.{kept-none, kept_piece}
 use Rattle.letters.proofs.kept_in.Given as goal
 
 abbrev pub invariant-loop-age : goal.invariant-loop-age

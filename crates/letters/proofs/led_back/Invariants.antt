@@ -1,15 +1,11 @@
 -- `letters::led_back` meets its contract: before place i, `out` has what is led back from the places below i; the places left
 -- fall. Assumes nothing.
 use Prim.Native.Nat.{◌-◌, ◌≤◌}
-use mathlib.Core.Path.{◌≡◌, refl}
-use native.Mathlib.Omega.{arith}
+use mathlib.Core.Path.{◌≡◌}
 use Rattle.meaning.specs.Tables.{table_of}
 use Rattle.record.specs.Pairs.{together}
 use Rattle.record.specs.Records.{place}
-use Rattle.record.proofs.Together.{together-next}
-use Rattle.image.proofs.Laws.{known-horizon, known-few, known-place}
 use Rattle.letters.specs.Letters.{led_back_in}
-use Rattle.letters.proofs.Laws.{led-held}
 use Rattle.letters.proofs.led_back.Given as goal
 
 abbrev pub invariant-loop-i : goal.invariant-loop-i

@@ -2,12 +2,10 @@
 -- left fall. Assumes nothing.
 use Prim.Native.Nat.{suc, ◌-◌, ◌≤◌}
 use mathlib.Core.Path.{◌≡◌}
-use native.Mathlib.Omega.{arith}
 use Rattle.meaning.specs.Tables.{table_of}
 use Rattle.record.specs.Pairs.{together}
 use Rattle.record.specs.Stretches.{stretch}
-use Rattle.image.proofs.Laws.{piece_within}
-use Rattle.letters.proofs.Laws.{led_back_at, led-none, led-piece, led-all}
+use Rattle.letters.proofs.Laws.{led_back_at}
 use Rattle.letters.proofs.led_back_in.Given as goal
 
 abbrev pub invariant-loop-age : goal.invariant-loop-age

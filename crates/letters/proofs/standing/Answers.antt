@@ -1,5 +1,4 @@
 -- `letters::standing` meets its contract. Assumes nothing.
-use Rattle.std.proofs.Common.{rules}
 use Rattle.meaning.specs.Tables.{table_of}
 use Rattle.letters.proofs.standing.Goals as goal
 

@@ -1,5 +1,4 @@
 -- `record::append` asks what `appended` asks, in its order. Assumes nothing.
-use Rattle.std.proofs.Common.{rules}
 use Rattle.base.proofs.Rules.{tests}
 use Rattle.record.specs.Building.{appended}
 use Rattle.record.proofs.append.Goals as goal

@@ -1,5 +1,4 @@
 -- `record::join` meets its contract: the place of the last stretch is written, and no other. Assumes nothing.
-use Rattle.std.proofs.Common.{rules}
 use Rattle.record.specs.Building.{joined}
 use Rattle.record.proofs.join.Goals as goal
 

@@ -1,9 +1,8 @@
 -- `record::pair_in` meets its contract: the places from i on do not have the age, so that the pair is that of the places
 -- below i, which fall. Assumes nothing.
 use Prim.Native.Nat.{◌≤◌}
-use mathlib.Core.Path.{◌≡◌, refl, ◌∙◌}
+use mathlib.Core.Path.{◌≡◌}
 use Rattle.record.specs.Records.{pair_in}
-use Rattle.record.proofs.Asked.{pair_in-here, pair_in-on, pair_in-none}
 use Rattle.record.proofs.pair_in.Given as goal
 
 abbrev pub invariant-loop-i : goal.invariant-loop-i

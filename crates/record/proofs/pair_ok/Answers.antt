@@ -1,5 +1,4 @@
 -- `record::pair_ok` asks what `pair_okb` asks, in its order. Assumes nothing.
-use Rattle.std.proofs.Common.{rules}
 use Rattle.base.proofs.Rules.{tests}
 use Rattle.record.specs.Records.{pair_okb}
 use Rattle.record.proofs.pair_ok.Goals as goal

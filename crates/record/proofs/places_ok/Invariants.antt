@@ -1,11 +1,8 @@
 -- `record::places_ok` meets its contract: the places below i are all as they should be; the places left fall. Assumes nothing.
 use Prim.Native.Nat.{◌-◌, ◌≤◌}
-use mathlib.Core.Path.{◌≡◌, refl}
+use mathlib.Core.Path.{◌≡◌}
 use mathlib.Core.Bool.{true}
-use native.Mathlib.Omega.{arith}
 use Rattle.base.specs.Masks.{all}
-use Rattle.base.proofs.Tests.{all-next, all-not}
-use Rattle.base.proofs.Rules.{tests}
 use Rattle.record.specs.Records.{place_okb}
 use Rattle.record.proofs.places_ok.Given as goal
 

@@ -1,5 +1,4 @@
 -- `record::push` asks what `pushed` asks, in its order. Assumes nothing.
-use Rattle.std.proofs.Common.{rules}
 use Rattle.base.proofs.Rules.{tests}
 use Rattle.record.specs.Building.{pushed}
 use Rattle.record.proofs.push.Goals as goal

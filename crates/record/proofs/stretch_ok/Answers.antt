@@ -1,5 +1,4 @@
 -- `record::stretch_ok` asks what `stretch_okb` asks, in its order. Assumes nothing.
-use Rattle.std.proofs.Common.{rules}
 use Rattle.base.proofs.Rules.{tests}
 use Rattle.record.specs.Records.{stretch_okb}
 use Rattle.record.proofs.stretch_ok.Goals as goal

@@ -1,5 +1,4 @@
 -- `session::answer_to` takes the steps under the calls' checks, and answers as the calls do. Assumes nothing.
-use Rattle.std.proofs.Common.{rules}
 use Rattle.session.proofs.Laws.{letter_answered, span_answered, gap_answered}
 use Rattle.session.proofs.answer_to.Goals as goal
 

@@ -1,5 +1,4 @@
 -- `session::is_framed` asks in the order of its definition. Assumes nothing.
-use Rattle.std.proofs.Common.{rules}
 use Rattle.base.proofs.Rules.{tests}
 use Rattle.session.specs.Sessions.{framed}
 use Rattle.session.proofs.is_framed.Goals as goal

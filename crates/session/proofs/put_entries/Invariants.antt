@@ -1,12 +1,10 @@
 -- `session::put_entries`: what is written, with the lines of the entries that are left, is the whole (`Going`); each turn goes
 -- on by two places at least. Assumes nothing.
-use Prim.Native.Nat.{◌-◌, ◌<◌}
+use Prim.Native.Nat.{◌-◌}
 use mathlib.Core.Path.{◌≡◌}
-use native.Mathlib.Omega.{arith}
 use lib.ListN.{length}
 use Rattle.session.specs.Sessions.{entries_from}
-use Rattle.session.proofs.Turn.{Going, going_begun, going_on, going_unread, going_over}
-use Rattle.session.proofs.Turn.{going_known, going_counts, going_fits, going_less}
+use Rattle.session.proofs.Turn.{Going}
 use Rattle.session.proofs.put_entries.Given as goal
 
 abbrev pub invariant-loop-place : goal.invariant-loop-place

@@ -2,8 +2,7 @@
 -- places left fall. Assumes nothing.
 use Prim.Native.Nat.{◌-◌, ◌≤◌}
 use mathlib.Core.Path.{◌≡◌}
-use native.Mathlib.Omega.{arith}
-use Rattle.spans.proofs.Laws.{so_far, so_far_none, so_far_next, so_far_all}
+use Rattle.spans.proofs.Laws.{so_far}
 use Rattle.spans.proofs.after_span.Given as goal
 
 abbrev pub invariant-loop-i : goal.invariant-loop-i

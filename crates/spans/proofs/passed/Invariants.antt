@@ -2,11 +2,9 @@
 -- left fall. Assumes nothing.
 use Prim.Native.Nat.{◌-◌, ◌≤◌}
 use mathlib.Core.Path.{◌≡◌}
-use native.Mathlib.Omega.{arith}
 use lib.ListN.{get_or}
 use Rattle.record.specs.Pairs.{together}
 use Rattle.record.specs.Records.{blank}
-use Rattle.record.proofs.Together.{together-next}
 use Rattle.spans.specs.Spans.{passed_in}
 use Rattle.spans.proofs.passed.Given as goal
 

@@ -1,10 +1,8 @@
 -- `text::put`: what is written so far is a copy of the word's first i bytes. Assumes nothing.
 use Prim.Native.Nat.{◌-◌, ◌≤◌}
 use mathlib.Core.Path.{◌≡◌}
-use native.Mathlib.Omega.{arith}
 use lib.ListN.{length}
-use lib.Seq.{paste, paste-zero}
-use Rattle.text.proofs.Laws.{copy_next, copy_done}
+use lib.Seq.{paste}
 use Rattle.text.proofs.put.Given as goal
 
 abbrev pub invariant-loop-i : goal.invariant-loop-i

@@ -1,12 +1,10 @@
 -- `verdicts::accepted_in` meets its contract: before place i, `out` has the accepting states of the places below i; the places
 -- left fall. Assumes nothing.
 use Prim.Native.Nat.{◌-◌, ◌≤◌}
-use mathlib.Core.Path.{◌≡◌, ap₂, ◌∙◌}
-use native.Mathlib.Omega.{arith}
-use Rattle.record.specs.Pairs.{both, together}
+use mathlib.Core.Path.{◌≡◌}
+use Rattle.record.specs.Pairs.{together}
 use Rattle.record.specs.Records.{place}
-use Rattle.record.proofs.Together.{together-next}
-use Rattle.verdicts.specs.Said.{accepted_of, accepted_in}
+use Rattle.verdicts.specs.Said.{accepted_of}
 use Rattle.verdicts.proofs.accepted_in.Given as goal
 
 abbrev pub invariant-loop-i : goal.invariant-loop-i

@@ -1,15 +1,12 @@
 -- `verdicts::is_settled` meets its contract: above H and in the places below i the two sets are equal; the places left fall.
 -- Assumes nothing.
 use Prim.Native.Nat.{◌-◌, ◌≤◌}
-use mathlib.Core.Path.{◌≡◌, refl}
+use mathlib.Core.Path.{◌≡◌}
 use mathlib.Core.Bool.{true}
-use native.Mathlib.Omega.{arith}
 use lib.ListN.{get_or}
 use Rattle.base.specs.Masks.{all}
-use Rattle.base.proofs.Tests.{all-next, all-not}
-use Rattle.base.proofs.Rules.{also, tests}
 use Rattle.record.specs.Records.{blank}
-use Rattle.verdicts.specs.Said.{equal_sets, settled_in}
+use Rattle.verdicts.specs.Said.{equal_sets}
 use Rattle.verdicts.proofs.is_settled.Given as goal
 
 abbrev pub invariant-loop-i : goal.invariant-loop-i
