@@ -83,6 +83,7 @@ fn room_fault(room: u8) -> u8
 }
 
 // The number of the first check that the table t, and then the room, fails.
+#[tactic(auto, using(base::proofs::Rules::checks), unfolding(crate::specs::Calls::start_fault))]
 fn start_fault(t: &[u8], room: u8) -> u8
     ensures { result ≡ start_fault t.now room }
 {

@@ -11,6 +11,7 @@ ghost use Rattle.faults.specs.Faults.{line_fault, table_fault};
 use table::{Head, Line};
 
 // 3: n, m or e is outside its range.
+#[tactic(auto, using(base::proofs::Rules::tests), unfolding(crate::specs::Faults::bad_counts))]
 fn bad_counts(h: Head) -> bool
     ensures { result ≡ bad_counts h }
 {
@@ -30,6 +31,7 @@ fn bad_counts(h: Head) -> bool
 }
 
 // 4: the stated length is not that of the lines, or not that of the whole slice.
+#[tactic(auto, using(base::proofs::Rules::tests), unfolding(crate::specs::Faults::bad_length))]
 fn bad_length(h: Head, whole: usize) -> bool
     ensures { result ≡ bad_length h whole }
 {
@@ -42,6 +44,7 @@ fn bad_length(h: Head, whole: usize) -> bool
 }
 
 // 5: a mask has a bit for state n or above.
+#[tactic(auto, using(base::proofs::Rules::tests), unfolding(crate::specs::Faults::bad_masks))]
 fn bad_masks(h: Head) -> bool
     ensures { result ≡ bad_masks h }
 {
@@ -57,6 +60,7 @@ fn bad_masks(h: Head) -> bool
 }
 
 // 6: a line's from or to is n or above, its letter m or above, or its flags above 1.
+#[tactic(auto, using(base::proofs::Rules::tests), unfolding(crate::specs::Faults::bad_parts))]
 fn bad_parts(h: Head, l: Line) -> bool
     ensures { result ≡ bad_parts h l }
 {
@@ -83,6 +87,7 @@ fn bad_greatest(greatest: u32) -> bool
 }
 
 // 7: L is above the longest age, or U is and is not the none value, or U is below L.
+#[tactic(auto, using(base::proofs::Rules::tests), unfolding(crate::specs::Faults::bad_ages))]
 fn bad_ages(l: Line) -> bool
     ensures { result ≡ bad_ages l }
 {
@@ -97,6 +102,7 @@ fn bad_ages(l: Line) -> bool
 }
 
 // The number of one line: 6 before 7.
+#[tactic(auto, using(base::proofs::Rules::checks), unfolding(crate::specs::Faults::line_fault))]
 fn line_fault(h: Head, l: Line) -> u8
     ensures { result ≡ line_fault h l }
 {
@@ -130,6 +136,7 @@ fn lines_fault(t: &[u8], h: Head) -> u8
 }
 
 // The number of the first check that the table t fails, 0 if it passes all.
+#[tactic(auto, using(base::proofs::Rules::checks), unfolding(crate::specs::Faults::table_fault))]
 pub fn table_fault(t: &[u8]) -> u8
     ensures { result ≡ table_fault t.now }
 {

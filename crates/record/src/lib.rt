@@ -79,6 +79,7 @@ fn place_at(r: Record, i: u8) -> Stretch
 // ---- what a record says of an age
 
 // The age is in the stretch, both ends in.
+#[tactic(auto, using(base::proofs::Rules::tests), unfolding(crate::specs::Records::inside))]
 fn is_inside(x: Stretch, age: u32) -> bool
     ensures { result ≡ inside x age }
 {
@@ -123,6 +124,7 @@ pub fn pair_at(horizon: u32, r: Record, age: u32) -> Pair
 // ---- whether a record is proper
 
 // The sure set is part of the possible set, and no state is n or above.
+#[tactic(auto, using(base::proofs::Rules::tests), unfolding(crate::specs::Records::pair_okb))]
 fn pair_ok(states: u8, p: Pair) -> bool
     ensures { result ≡ pair_okb states p }
 {
@@ -135,6 +137,7 @@ fn pair_ok(states: u8, p: Pair) -> bool
 }
 
 // It is some ages long, within 0 to H, with something possible, and its pair is a good one.
+#[tactic(auto, using(base::proofs::Rules::tests), unfolding(crate::specs::Records::stretch_okb))]
 fn stretch_ok(horizon: u32, states: u8, x: Stretch) -> bool
     ensures { result ≡ stretch_okb horizon states x }
 {
@@ -168,6 +171,7 @@ fn follows(x: Stretch, y: Stretch) -> bool
 }
 
 // All zeros.
+#[tactic(auto, using(base::proofs::Rules::tests), unfolding(crate::specs::Records::blankb))]
 fn is_blank(x: Stretch) -> bool
     ensures { result ≡ blankb x }
 {
@@ -295,6 +299,7 @@ fn overfull_record(room: u8, above: Pair) -> Record
 }
 
 // A stretch more, in the place behind the last, within the room.
+#[tactic(auto, using(base::proofs::Rules::tests), unfolding(crate::specs::Building::appended))]
 fn append(r: Record, x: Stretch) -> Record
     ensures { result ≡ appended r x }
 {
@@ -333,6 +338,7 @@ fn touch(x: Stretch, a: u32, p: Pair) -> bool
 }
 
 // The last stretch goes on to the age b.
+#[tactic(auto, unfolding(crate::specs::Building::joined))]
 fn join(r: Record, b: u32) -> Record
     requires count_nonzero { 0 < r.count }
     requires count_bound { r.count ≤ 64 }
@@ -354,6 +360,7 @@ fn join(r: Record, b: u32) -> Record
 
 // The ages a to b, all with the pair p, behind the stretches of the ages below a: they go on with the last stretch or begin
 // one, or none where nothing is possible.
+#[tactic(auto, using(base::proofs::Rules::tests), unfolding(crate::specs::Building::pushed))]
 pub fn push(r: Record, a: u32, b: u32, p: Pair) -> Record
     ensures { result ≡ pushed r a b p }
 {

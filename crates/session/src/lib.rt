@@ -17,6 +17,7 @@ use record::Record;
 // ---- the frame
 
 // Whether there are 2 to 32,768 bytes, of version 1.
+#[tactic(auto, using(base::proofs::Rules::tests), unfolding(crate::specs::Sessions::framed))]
 fn is_framed(s: &[u8]) -> bool
     ensures { result ≡ framed s.now }
 {
