@@ -236,6 +236,7 @@ fn places_ok(horizon: u32, states: u8, r: Record) -> bool
 }
 
 // Whether r is a proper record for a table of that horizon and that many states.
+#[tactic(auto, using(base::proofs::Rules::tests), unfolding(crate::specs::Records::properb))]
 pub fn proper(horizon: u32, states: u8, r: Record) -> bool
     ensures { result ≡ properb horizon states r }
 {

@@ -27,3 +27,6 @@ module _ (b : List ℕ) where
   pub line_at-short : (k : ℕ) → length b < 24 + 12 * k → line_at b k ≡ no_line
   unfolding line_at
   line_at-short k h = rw (lt-leb (24 + 12 * k) (length b) h)
+
+-- by these a reader's contract is proved: the list is long enough, or it is not
+pub ruleset by_length = (head_of-whole, head_of-short, line_at-whole, line_at-short)

@@ -77,6 +77,7 @@ fn no_line() -> Line
 }
 
 // The head of the table t; all 0 where t has fewer than 12 bytes.
+#[tactic(auto, using(crate::proofs::Laws::by_length))]
 pub fn head_of(t: &[u8]) -> Head
     ensures { result ≡ head_of t.now }
 {
@@ -97,6 +98,7 @@ pub fn head_of(t: &[u8]) -> Head
 
 // Line k of the table t, the first being line 0; all 0 where t ends before the line does. The number of lines that the
 // head states is not asked: whoever judges a table compares it with the length.
+#[tactic(auto, using(crate::proofs::Laws::by_length))]
 pub fn line_at(t: &[u8], k: u8) -> Line
     ensures { result ≡ line_at t.now k }
 {

@@ -1,21 +1,7 @@
 -- `record::proper` asks what `properb` asks, in its order. Assumes nothing.
 use Rattle.std.proofs.Common.{rules}
-use Rattle.base.proofs.Rules.{tests}
 use Rattle.record.proofs.Asked.{proper-not, proper-by}
-use Rattle.record.specs.Records.{properb}
 use Rattle.record.proofs.proper.Goals as goal
-
-pub returns-then-r-lt1 : goal.returns-then-r-lt1
-unfolding properb
-returns-then-r-lt1 c = search tests
-
-pub returns-then-r-gt64 : goal.returns-then-r-gt64
-unfolding properb
-returns-then-r-gt64 c = search tests
-
-pub returns-then-r : goal.returns-then-r
-unfolding properb
-returns-then-r c = search tests
 
 pub returns-then-not-places : goal.returns-then-not-places
 returns-then-not-places c =
