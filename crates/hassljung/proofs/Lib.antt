@@ -1,2 +1,2 @@
--- What the proofs of several functions use.
+-- What is proved beside the functions.
 mod Laws
