@@ -1,6 +1,6 @@
 -- Document 01's table of numbers as exact statements, a row for each of 1 to 11: the number is given if the row's case is met
 -- and no check before it fails, and not otherwise. It says of each number alone what `Answers` says of all. Assumes nothing:
--- these are definitions; that they hold is proved (`Each-number`).
+-- these are definitions; that they hold is proved (`each_number`).
 use Rattle.std.specs.Prelude.{ℕ, ◌<◌, ◌≡◌, ◌↔◌, List}
 use Rattle.table.specs.Table.{head_of, line_at}
 use Rattle.record.specs.declared.Record.{Record}
