@@ -35,7 +35,7 @@ fn watch() -> Result<(), String> {
     write_output(lines.written()).map_err(|error| format!("standard output: {error}"))
 }
 
-/// The C library's entry in place of Rust's, which asks for the bounds of the stack: an emulator may not know them.
+/// The C library's entry in place of Rust's, which asks for the bounds of the stack first.
 #[no_mangle]
 pub extern "C" fn main() -> i32 {
     match watch() {
