@@ -2,7 +2,7 @@
 #![tactic(auto)]
 
 ghost use Rattle.std.specs.Prelude.{ℕ, ◌+◌, ◌-◌, ◌^◌, ◌≤◌, ◌<◌, ◌≡◌};
-ghost use Rattle.meaning.specs.Tables.{table_of, horizon as horizonOf};
+ghost use Rattle.meaning.specs.Tables.{table_of, horizon as horizon_of};
 ghost use Rattle.faults.specs.Sound.{Sound};
 ghost use Rattle.record.specs.Pairs.{together, start_pairs, gap_pairs};
 ghost use Rattle.record.specs.Records.{place, pairs_at, record_of, Proper};
@@ -16,7 +16,7 @@ use record::{Pair, Record, Stretch};
 pub fn at_start(t: &[u8], room: u8) -> Record
     requires le_room { 1 ≤ room }
     requires room_bound { room ≤ 64 }
-    ensures { result ≡ record_of room (horizonOf (table_of t.now)) (start_pairs (table_of t.now)) }
+    ensures { result ≡ record_of room (horizon_of (table_of t.now)) (start_pairs (table_of t.now)) }
 {
     let head = table::head_of(t);
     let above = record::no_pair();

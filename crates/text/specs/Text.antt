@@ -60,6 +60,6 @@ unfoldable pub refusal_text : ℕ → ℕ → List ℕ
 refusal_text ordinal number = decimal ordinal ++ (space ∷ refused_text) ++ last_word number
 
 -- the word was written into a buffer from place `at` on, and ends before place `end`: up to there the buffer has what it had
--- before `at`, and then the word. So what stood before `at` stays (`Wrote-kept`); of what stands from `end` on nothing is said
+-- before `at`, and then the word. So what stood before `at` stays (`wrote_kept`); of what stands from `end` on nothing is said
 abbrev pub Wrote : List ℕ → ℕ → List ℕ → List ℕ → ℕ → Type 0
 Wrote before at word after end = (end ≡ at + length word) × (take end after ≡ take at before ++ word)
