@@ -196,7 +196,7 @@ module _ (b : List ℕ) where
     record_rows : (more : List Check) (n : ℕ) → Behind more → Is (others more 8) → Answers (record_checks b r ++ more) n
         → RecordRows b r n
     record_rows more n behind none a = record {
-      rows-1_to_7 = table-rows b (8 when (¬ ProperFor b r) ∷ more) (behind-cons 8 (omega arith) behind) n whole;
+      rows_1_to_7 = table-rows b (8 when (¬ ProperFor b r) ∷ more) (behind-cons 8 (omega arith) behind) n whole;
       row-8 = given 8 (omega arith) (table_checks b) (¬ ProperFor b r) more whole table-others none;
     }
       where

@@ -27,7 +27,7 @@ pub record TableRows (b : List ℕ) (n : ℕ) : Type 0 where
 
 -- and 8: n is the number of any call on the table b and the record r, so of all but a start
 pub record RecordRows (b : List ℕ) (r : Record) (n : ℕ) : Type 0 where
-  pub rows-1_to_7 : TableRows b n
+  pub rows_1_to_7 : TableRows b n
   pub row-8 : (n ≡ 8) ↔ (AllPass (table_checks b) × (¬ ProperFor b r))
 
 -- what each call and each question carries that is handed the bytes b and the record r, whatever they are

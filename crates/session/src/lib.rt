@@ -71,7 +71,7 @@ fn put_answer(
     at: usize,
 ) -> usize
     requires known { Known t.now horizon answer.next }
-    requires at_in_bounds { at + 27 ≤ length out.old }
+    requires roomy { at + 27 ≤ length out.old }
     ensures { Wrote out.old at (answer_text t.now ordinal answer) out.new result }
 {
     if answer.number != 0 {
@@ -144,8 +144,8 @@ fn put_begun(s: &[u8], t: &[u8], room: u8, from: usize, out: &mut [u8]) -> usize
 
 // The lines of a session that is framed: the table is cut off, and the entries begin behind it.
 fn put_framed(s: &[u8], out: &mut [u8]) -> usize
-    requires s_value { framed s.now ≡ true }
-    requires room_for_lines_in_bounds { room_for_lines ≤ length out.old }
+    requires in_frame { framed s.now ≡ true }
+    requires roomy { room_for_lines ≤ length out.old }
     ensures { Wrote out.old 0 (session_of s.now) out.new result }
 {
     let count = table_length(s);
@@ -155,9 +155,9 @@ fn put_framed(s: &[u8], out: &mut [u8]) -> usize
 
 // The session s: the bytes to print stand at the start of out, as many as is answered.
 pub fn session(s: &[u8], out: &mut [u8; LINES]) -> usize
-    ensures out_after { take result out.new ≡ session_of s.now }
-    ensures value { result ≡ length (session_of s.now) }
-    ensures prefix_len { IsPrefixLen result out.new }
+    ensures text { take result out.new ≡ session_of s.now }
+    ensures count { result ≡ length (session_of s.now) }
+    ensures within { IsPrefixLen result out.new }
 {
     let framed = is_framed(s);
     if framed {

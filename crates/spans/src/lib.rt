@@ -14,8 +14,8 @@ use record::{Pair, Record, Stretch};
 
 // The initial states at age 0, sure and possible alike.
 pub fn at_start(t: &[u8], room: u8) -> Record
-    requires le_room { 1 ≤ room }
-    requires room_bound { room ≤ 64 }
+    requires room_low { 1 ≤ room }
+    requires room_high { room ≤ 64 }
     ensures { result ≡ record_of room (horizon_of (table_of t.now)) (start_pairs (table_of t.now)) }
 {
     let head = table::head_of(t);
@@ -40,8 +40,8 @@ fn all_states(n: u8) -> u16
 // Nothing sure and everything possible, at every age.
 pub fn at_gap(t: &[u8], horizon: u32, room: u8) -> Record
     requires sound { Sound t.now }
-    requires le_room { 1 ≤ room }
-    requires room_bound { room ≤ 64 }
+    requires room_low { 1 ≤ room }
+    requires room_high { room ≤ 64 }
     ensures { result ≡ record_of room horizon (gap_pairs (table_of t.now)) }
 {
     let head = table::head_of(t);
@@ -69,8 +69,8 @@ fn passed_in(horizon: u32, seconds: u32, x: Stretch) -> Pair
 
 // What the span takes above H of all stretches.
 fn passed(horizon: u32, seconds: u32, r: Record) -> Pair
-    requires by_index { (n : ℕ) × Proper horizon n r }
-    requires seconds_bound { horizon + seconds < 4294967296 }
+    requires proper { (n : ℕ) × Proper horizon n r }
+    requires ages_fit { horizon + seconds < 4294967296 }
     ensures { result ≡ together r.count (λ i. passed_in horizon seconds (place r i)) }
 {
     let count = r.count;
@@ -89,8 +89,8 @@ fn passed(horizon: u32, seconds: u32, r: Record) -> Pair
 
 // The stretch, moved up behind those before it; what passes H is cut off.
 fn moved_in(horizon: u32, seconds: u32, x: Stretch, so_far: Record) -> Record
-    requires seconds_bound { x.first + seconds < 4294967296 }
-    requires seconds_bound_2 { x.last + seconds < 4294967296 }
+    requires first_fits { x.first + seconds < 4294967296 }
+    requires last_fits { x.last + seconds < 4294967296 }
     ensures { result ≡ moved_in horizon seconds x so_far }
 {
     let first = x.first + seconds;
@@ -107,8 +107,8 @@ fn moved_in(horizon: u32, seconds: u32, x: Stretch, so_far: Record) -> Record
 
 // Every age is as many seconds later.
 pub fn after_span(horizon: u32, r: Record, seconds: u32) -> Record
-    requires by_index { (n : ℕ) × Proper horizon n r }
-    requires seconds_bound { horizon + seconds < 4294967296 }
+    requires proper { (n : ℕ) × Proper horizon n r }
+    requires ages_fit { horizon + seconds < 4294967296 }
     ensures { result ≡ record_of r.room horizon (span_pairs horizon seconds (pairs_at horizon r)) }
 {
     let gone = passed(horizon, seconds, r);

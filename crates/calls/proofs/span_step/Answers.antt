@@ -16,8 +16,8 @@ returns-then-seconds-gt2147483647 c =
     let a = c.args in
     c.refused-then-seconds-gt2147483647.ensures ∙ span_long a.t.now a.r a.seconds (search rules)
 
-pub after_span-next-requires-clause-seconds_bound : goal.after_span-next-requires-clause-seconds_bound
-after_span-next-requires-clause-seconds_bound c = omega (arith, known-horizon _ _ _ c.requires)
+pub after_span-next-requires-clause-ages_fit : goal.after_span-next-requires-clause-ages_fit
+after_span-next-requires-clause-ages_fit c = omega (arith, known-horizon _ _ _ c.requires)
 
 pub returns : goal.returns
 returns c =

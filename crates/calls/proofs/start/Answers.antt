@@ -11,12 +11,12 @@ returns-then-number-ne0 c =
     c.refused.ensures ∙ begin_refused a.t.now a.room fault.result c.blank_record-blank.result
     fault.ensures c.if-number-ne0.true c.blank_record-blank.ensures
 
-pub at_start-next-requires-clause-le_room : goal.at_start-next-requires-clause-le_room
-at_start-next-requires-clause-le_room c =
+pub at_start-next-requires-clause-room_low : goal.at_start-next-requires-clause-room_low
+at_start-next-requires-clause-room_low c =
     ((start_fault-iff _ _).0 (sym c.start_fault-number.ensures ∙ c.if-number-ne0.false)).1.0
 
-pub at_start-next-requires-clause-room_bound : goal.at_start-next-requires-clause-room_bound
-at_start-next-requires-clause-room_bound c =
+pub at_start-next-requires-clause-room_high : goal.at_start-next-requires-clause-room_high
+at_start-next-requires-clause-room_high c =
     ((start_fault-iff _ _).0 (sym c.start_fault-number.ensures ∙ c.if-number-ne0.false)).1.1
 
 pub returns : goal.returns
