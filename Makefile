@@ -16,4 +16,4 @@ bench:
 	@scripts/bench
 
 clean:
-	rm -rf crates/*/out oracle/target bench/target .tools
+	rm -rf target crates/*/out oracle/target bench/target .tools

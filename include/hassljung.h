@@ -1,8 +1,8 @@
 /* Hassljung: a proved watch, for a controller's firmware.
  *
- * The archive is made by `rt lib`, run in crates/hassljung. It needs no heap and no operating system; of a C library it needs memcpy
- * and memset. Every function may be handed any table and any record: it checks both, answers with a number, and writes nothing but
- * what it returns. Nothing is kept between calls: what a watch knows is its record, which each call hands to the next.
+ * The archive is made by scripts/archive. It needs no heap and no operating system; of a C library it needs memcpy and memset.
+ * Every function may be handed any table and any record: it checks both, answers with a number, and writes nothing but what it
+ * returns. Nothing is kept between calls: what a watch knows is its record, which each call hands to the next.
  *
  * A table is handed in as a pointer to its first byte, which must not be null, and its length; all of its bytes must be
  * readable. That is all a caller owes.

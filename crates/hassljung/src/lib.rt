@@ -1,6 +1,6 @@
-// The library for a controller's firmware: each call and each question by C's calling convention, under a name with a prefix.
-// Thin: each hands on what it is handed, and answers as `calls` does. An enum does not cross to C, so what a question is told
-// crosses as a number. A table crosses as a pointer and a length, a record by value; include/hassljung.h has the C side.
+// The library for a controller's firmware: each call and each question in the form in which it crosses to C, under a name with a
+// prefix. Thin: each hands on what it is handed, and answers as `calls` does. An enum does not cross to C, so what a question is told
+// crosses as a number. `hassljung_c` has the exports.
 #![tactic(auto)]
 
 ghost use Rattle.std.specs.Prelude.{◌≡◌};
@@ -37,32 +37,28 @@ pub struct CountAnswer {
 // ---- the calls
 
 // A watch begins, in a room of so many stretches.
-#[unsafe(no_mangle)]
-pub extern "C" fn hassljung_start(t: &[u8], room: u8) -> Answer
+pub fn hassljung_start(t: &[u8], room: u8) -> Answer
     ensures { result ≡ start_of t.now room }
 {
     calls::start(t, room)
 }
 
 // A letter arrives.
-#[unsafe(no_mangle)]
-pub extern "C" fn hassljung_letter(t: &[u8], r: Record, letter: u8) -> Answer
+pub fn hassljung_letter(t: &[u8], r: Record, letter: u8) -> Answer
     ensures { result ≡ letter_of t.now r letter }
 {
     calls::letter(t, r, letter)
 }
 
 // So many seconds pass.
-#[unsafe(no_mangle)]
-pub extern "C" fn hassljung_span(t: &[u8], r: Record, seconds: u32) -> Answer
+pub fn hassljung_span(t: &[u8], r: Record, seconds: u32) -> Answer
     ensures { result ≡ span_of t.now r seconds }
 {
     calls::span(t, r, seconds)
 }
 
 // Some of the stream is lost.
-#[unsafe(no_mangle)]
-pub extern "C" fn hassljung_gap(t: &[u8], r: Record) -> Answer
+pub fn hassljung_gap(t: &[u8], r: Record) -> Answer
     ensures { result ≡ gap_of t.now r }
 {
     calls::gap(t, r)
@@ -82,8 +78,7 @@ fn verdict_number(verdict: Verdict) -> u8
 }
 
 // The verdict.
-#[unsafe(no_mangle)]
-pub extern "C" fn hassljung_verdict(t: &[u8], r: Record) -> VerdictAnswer
+pub fn hassljung_verdict(t: &[u8], r: Record) -> VerdictAnswer
     ensures { result ≡ verdict_answer (verdict_of t.now r) }
 {
     let reply = calls::verdict(t, r);
@@ -100,8 +95,7 @@ pub extern "C" fn hassljung_verdict(t: &[u8], r: Record) -> VerdictAnswer
 }
 
 // Whether it is settled.
-#[unsafe(no_mangle)]
-pub extern "C" fn hassljung_settled(t: &[u8], r: Record) -> SettledAnswer
+pub fn hassljung_settled(t: &[u8], r: Record) -> SettledAnswer
     ensures { result ≡ settled_answer (settled_of t.now r) }
 {
     let reply = calls::settled(t, r);
@@ -118,8 +112,7 @@ pub extern "C" fn hassljung_settled(t: &[u8], r: Record) -> SettledAnswer
 }
 
 // How many stretches the record holds.
-#[unsafe(no_mangle)]
-pub extern "C" fn hassljung_count(t: &[u8], r: Record) -> CountAnswer
+pub fn hassljung_count(t: &[u8], r: Record) -> CountAnswer
     ensures { result ≡ count_answer (count_of t.now r) }
 {
     let reply = calls::count(t, r);
