@@ -9,9 +9,5 @@ ghost use Rattle.base.specs.Masks.{past_states};
 pub fn past_states(n: u8, mask: u16) -> bool
     ensures { result ≡ past_states n mask }
 {
-    if 16 <= n {
-        return false;
-    }
-    let past = mask >> n;
-    past != 0
+    n < 16 && mask >> n != 0
 }

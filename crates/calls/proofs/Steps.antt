@@ -1,15 +1,18 @@
 -- Each call is its checks and its step (`start_call`, `letter_call`, `span_call`, `gap_call`; a question is so by its definition).
--- Then what code asks on the way: the checks 1 to 8 tell what the steps need (`known`), and a step answers by what was built
--- (`letter_unknown`, `letter_over`, `letter_fits`, `span_passes`, ..). Assumes nothing.
+-- Then what code asks on the way: the checks 1 to 8 tell what the steps need (`known`), a call is its step where they passed
+-- (`letter_known`, ..), and a step answers by what was built (`letter_unknown`, `letter_over`, `letter_fits`, `span_passes`, ..).
+-- Assumes nothing.
 use Prim.Native.Nat.{ℕ, zero, suc, ◌≤◌, ◌<◌}
 use mathlib.Core.Path.{◌≡◌, refl, sym, ap, ◌∙◌, subst}
 use mathlib.Core.Logic.{◌↔◌}
 use mathlib.Core.List.{List}
-use mathlib.Core.Bool.{false}
+use mathlib.Core.Bool.{Bool, true, false, ◌||◌, not, true≢false}
 use native.Mathlib.Decide.{dec_le}
 use native.Mathlib.Omega.{arith}
-use lib.Dec.{leb}
-use borrow.Author.Tests.{le-leb, lt-leb, le-ltb, lt-ltb, eq-eqb, ne_eqb}
+use lib.Dec.{leb, eqb, ltb}
+use Rattle.base.proofs.Checks.{◌or◌, at_most, not_zero}
+use Rattle.base.proofs.Tests.{is_true}
+use borrow.Author.Tests.{not-true, not-false, le-leb, lt-leb, le-ltb, lt-ltb, ne_eqb}
 use Rattle.base.specs.Checks.{◌then◌}
 use Rattle.table.specs.declared.Head.{Head}
 use Rattle.table.specs.Table.{head_of}
@@ -21,7 +24,7 @@ use Rattle.record.specs.Records.{blank_record, pairs_at, record_of, Proper}
 use Rattle.record.specs.Verdicts.{verdict_at, settled_at}
 use Rattle.record.specs.Building.{built_of}
 use Rattle.record.proofs.Building.{built-fits, built-over}
-use Rattle.image.specs.Known.{Known}
+use Rattle.known.specs.Known.{Known}
 use Rattle.spans.specs.Spans.{span_pairs}
 use Rattle.spans.proofs.Laws.{span_stepped}
 use Rattle.calls.specs.declared.Answer.{Answer}
@@ -166,13 +169,15 @@ module _ (b : List ℕ) (r : Record) (a : ℕ) (h : Head) (head : h ≡ head_of 
 -- ---- a span, where they passed
 
 module _ (b : List ℕ) (r : Record) (s : ℕ) where
-  pub span_none : s < 1 → refusal 10 r ≡ span_step b r s
-  unfolding span_step
-  span_none l = rw (eq-eqb s 0 (omega arith))
+  abbrev bad : Bool
+  bad = eqb s 0 || ltb 2147483647 s
 
-  pub span_long : 2147483647 < s → refusal 10 r ≡ span_step b r s
+  pub span_bad : false ≡ not bad → refusal 10 r ≡ span_step b r s
   unfolding span_step
-  span_long l = rw (ne_eqb s 0 (λ e. omega arith), lt-ltb 2147483647 s l)
+  span_bad e = rw (not-false bad (sym e))
+
+  pub span_good : true ≡ not bad → (1 ≤ s) × (s ≤ 2147483647)
+  span_good e = (not_zero s or at_most 2147483647 s).iff.0 (λ t. true≢false (sym (is_true bad t) ∙ not-true bad (sym e)))
 
   -- as code asks: the record that after_span hands back
   pub span_passes : (H : ℕ) → Known b H r → (next : Record) → next ≡ record_of r.room H (span_pairs H s (pairs_at H r))

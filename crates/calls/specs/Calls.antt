@@ -1,24 +1,21 @@
 -- What each call answers, for every table and record that may be handed in: its number and its record, or its number and
 -- nothing else, or what was asked (document 01, Numbers a call can answer with). Everything is said by ages and sets; of a
 -- record are read its room, the pairs of its ages, and whether it is proper. Assumes nothing: these are definitions.
-use Rattle.std.specs.Prelude.{ℕ, zero, suc, List, Bool, ◌&&◌, ◌||◌, not, eqb, leb, ltb, length}
+use Rattle.std.specs.Prelude.{ℕ, zero, suc, List, Bool, ◌&&◌, ◌||◌, not, eqb, leb, ltb, length, Result, Ok, Err}
 use Rattle.base.specs.Checks.{◌if◌, ◌then◌}
 use Rattle.meaning.specs.Tables.{table_of, horizon}
 use Rattle.meaning.specs.Runs.{Symbol, letter, span}
+use Rattle.faults.specs.declared.Fault.{Fault}
 use Rattle.faults.specs.Faults.{table_fault}
+use Rattle.faults.specs.Numbered.{number}
 use Rattle.record.specs.declared.Record.{Record}
 use Rattle.record.specs.Pairs.{Pairs, start_pairs, gap_pairs, step_pairs}
 use Rattle.record.specs.Verdicts.{Verdict, verdict_at, settled_at}
 use Rattle.record.specs.Stretches.{stretches_of}
 use Rattle.record.specs.Records.{blank_record, pairs_at, record_of, Proper, properb}
+use Rattle.verdicts.specs.declared.Verdict.{Verdict as Case}
 use Rattle.verdicts.specs.Said.{verdict_case}
 use Rattle.calls.specs.declared.Answer.{Answer}
-use Rattle.calls.specs.declared.VerdictReply.{VerdictReply}
-use Rattle.calls.specs.declared.VerdictReply.TheVariants as VerdictCases
-use Rattle.calls.specs.declared.SettledReply.{SettledReply}
-use Rattle.calls.specs.declared.SettledReply.TheVariants as SettledCases
-use Rattle.calls.specs.declared.CountReply.{CountReply}
-use Rattle.calls.specs.declared.CountReply.TheVariants as CountCases
 
 -- ---- the table and the record that were handed in
 
@@ -144,16 +141,33 @@ settled_of b r = reply (record_fault b r) (settled_at (table_of b) (pairs_of b r
 unfoldable pub count_of : List ℕ → Record → Reply ℕ
 count_of b r = reply (record_fault b r) (needed b (pairs_of b r))
 
--- ---- the cases of the questions' answers: "a definition gives this paper's number and values for each of the enum's cases"
+-- ---- what the code answers: "a definition gives this paper's number and values for each of the enum's cases"
+
+-- a call, to which the record `old` was lent
+abbrev pub answered : Record → Result Record Fault → Answer
+answered old (Ok new) = accepted new
+answered old (Err f) = refusal (number f) old
+
+-- a question
+abbrev pub VerdictReply : Type 0
+VerdictReply = Result Case Fault
+
+abbrev pub SettledReply : Type 0
+SettledReply = Result Bool Fault
+
+abbrev pub CountReply : Type 0
+CountReply = Result ℕ Fault
+
+-- what it was told stands for f of it
+abbrev pub replied : {A B : Type 0} → (A → B) → Result A Fault → Reply B
+replied f (Ok a) = told (f a)
+replied f (Err e) = refused (number e)
 
 abbrev pub verdict_reply : VerdictReply → Reply Verdict
-verdict_reply (VerdictCases.Refused n) = refused n
-verdict_reply (VerdictCases.Told v) = told (verdict_case v)
+verdict_reply = replied verdict_case
 
 abbrev pub settled_reply : SettledReply → Reply Bool
-settled_reply (SettledCases.Refused n) = refused n
-settled_reply (SettledCases.Told b) = told b
+settled_reply = replied (λ b. b)
 
 abbrev pub count_reply : CountReply → Reply ℕ
-count_reply (CountCases.Refused n) = refused n
-count_reply (CountCases.Told n) = told n
+count_reply = replied (λ n. n)

@@ -2,6 +2,7 @@
 -- 01, One session, whole) with what the demands say of them, and two tables on which a looser demand 3 would differ. Assumes
 -- nothing.
 use Prim.Native.Nat.{ℕ, zero, suc, ◌+◌, ◌≤◌, ◌<◌}
+use Rattle.std.proofs.Common.{Ok, Err}
 use mathlib.Core.Path.{◌≡◌, refl}
 use mathlib.Core.Logic.{◌⊎◌, inl, inr}
 use native.Mathlib.Omega.{arith}
@@ -23,7 +24,6 @@ use Rattle.record.specs.Records.{inside, pair_in, pairs_at, record_of, pair_okb,
 use Rattle.record.proofs.Cases.{seven}
 use Rattle.verdicts.specs.declared.Verdict.TheVariants.{Yes}
 use Rattle.calls.specs.declared.Answer.{Answer}
-use Rattle.calls.specs.declared.VerdictReply.TheVariants as VerdictCases
 use Rattle.calls.specs.Calls.{start_fault, record_fault, letter_fault, span_fault, start_of, letter_of, span_of, gap_of, verdict_of, settled_of, verdict_reply, settled_reply}
 use Rattle.demands.specs.Order.{FirstFails}
 use Rattle.demands.specs.Counting.{ThereAre}
@@ -88,7 +88,7 @@ unfolding start_fault record_fault letter_fault span_fault start_of letter_of sp
     pair_okb stretch_okb followsb blankb place_okb properb touches push newest start_pairs step_pairs verdict_at bad_counts
     bad_length bad_masks bad_parts bad_ages line_fault table_fault image fresh_at letter_at passed_at span_at step_at accepts_at table_of
     horizon accepting_at head_of line_at hasb union most all first_of
-fresh_after_5_seconds = (demand_2 board-table _ _ a_refused_look (VerdictCases.Told Yes) refl).yes.0 refl
+fresh_after_5_seconds = (demand_2 board-table _ _ a_refused_look (Ok Yes) refl).yes.0 refl
 
 -- in room 4: 5 seconds, a gap, a look, refreshed
 abbrev pub lost : Answer
@@ -115,7 +115,7 @@ unfolding start_fault record_fault letter_fault span_fault start_of letter_of sp
     pair_okb stretch_okb followsb blankb place_okb properb touches push newest start_pairs gap_pairs step_pairs verdict_at bad_counts
     bad_length bad_masks bad_parts bad_ages line_fault table_fault image fresh_at letter_at passed_at span_at step_at accepts_at table_of
     horizon accepting_at head_of line_at hasb union most all first_of
-fresh_whatever_was_lost = (never_false board-table _ _ after_a_gap (VerdictCases.Told Yes) refl).yes_of_all refl
+fresh_whatever_was_lost = (never_false board-table _ _ after_a_gap (Ok Yes) refl).yes_of_all refl
 
 -- ---- two tables on which a looser demand 3 would differ
 

@@ -2,6 +2,7 @@
 -- is false, however much was lost (`never_false`). On the way: there are streams (`stream_begins`), and their records pass the
 -- checks and hold their stretches (`stream_passes`, `stream_holds`). Assumes nothing.
 use Prim.Native.Nat.{ℕ, ◌-◌}
+use Rattle.std.proofs.Common.{Ok, Err}
 use mathlib.Core.Path.{◌≡◌, refl, sym, ap, ◌∙◌, subst}
 use mathlib.Core.Logic.Iff
 use mathlib.Core.Logic.{◌↔◌, ◌≢◌}
@@ -17,6 +18,7 @@ use Rattle.meaning.specs.Sets.{Confs, after, Accepts, Initial, Over}
 use Rattle.meaning.proofs.Runs.{accepted-iff}
 use Rattle.meaning.proofs.Sets.{after-closed, initial-over, after-joined}
 use Rattle.faults.proofs.Laws.{sound-closed}
+use Rattle.faults.specs.declared.Fault.{Fault}
 use Rattle.record.specs.declared.Stretch.{Stretch}
 use Rattle.record.specs.declared.Record.{Record}
 use Rattle.record.specs.Pairs.{Pairs}
@@ -30,12 +32,7 @@ use Rattle.verdicts.specs.declared.Verdict.{Verdict as Case}
 use Rattle.verdicts.specs.declared.Verdict.TheVariants.{Yes, No, Unsure}
 use Rattle.verdicts.specs.Said.{verdict_case}
 use Rattle.calls.specs.declared.Answer.{Answer}
-use Rattle.calls.specs.declared.VerdictReply.{VerdictReply}
-use Rattle.calls.specs.declared.VerdictReply.TheVariants as VerdictCases
-use Rattle.calls.specs.declared.SettledReply.{SettledReply}
-use Rattle.calls.specs.declared.SettledReply.TheVariants as SettledCases
-use Rattle.calls.specs.declared.CountReply.TheVariants as CountCases
-use Rattle.calls.specs.Calls.{pairs_of, holding, stepped, record_fault, start_of, letter_of, span_of, gap_of, told, reply_number, reply, verdict_of, settled_of, count_of, verdict_reply, settled_reply}
+use Rattle.calls.specs.Calls.{pairs_of, holding, stepped, record_fault, start_of, letter_of, span_of, gap_of, told, reply_number, reply, verdict_of, settled_of, count_of, verdict_reply, settled_reply, VerdictReply, SettledReply}
 use Rattle.calls.proofs.Laws.{record_fault-iff, letter_next, call-numbers, start_refused, letter_refused, span_refused, gap_refused, reply-number, count_held}
 use Rattle.calls.proofs.Promises.{not_both, same-value, verdict_reply-one, settled_reply-one, count_reply-one}
 use Rattle.demands.specs.Order.{Check, AllPass, Answers}
@@ -89,7 +86,7 @@ module _ (b : List ℕ) (r : Record) where
     held = λ h whole. let passed = (record_fault-iff b r).0 ((record_answers b r).accepted.1 h) in
         subst (HoldsStretches b (pairs_of b r)) (canon_record (horizon (table_of b)) (table_of b).states r whole passed.1)
         (holding-stretches b r.room (pairs_of b r));
-    told = λ h v p. count_reply-one v (CountCases.Told r.count) (p ∙ count_held b r ((record_answers b r).accepted.1 h));
+    told = λ h v p. count_reply-one v (Ok r.count) (p ∙ count_held b r ((record_answers b r).accepted.1 h));
     held_after = λ a x p z. subst (HoldsStretches b (stepped b r (letter a)))
         (sym (letter_next b r a (ap (λ (y : Answer). y.number) (sym p) ∙ z)) ∙ ap (λ (y : Answer). y.next) (sym p))
         (holding-stretches b r.room (stepped b r (letter a)));
@@ -118,23 +115,23 @@ module _ (b : List ℕ) where
 -- ---- what is told is what was asked
 
 module _ (v : VerdictReply) (u : Verdict) (p : verdict_reply v ≡ told u) where
-  told-case : (c : Case) → (v ≡ VerdictCases.Told c) ↔ (u ≡ verdict_case c)
+  told-case : (c : Case) → (v ≡ Ok c) ↔ (u ≡ verdict_case c)
   told-case c = (
     (λ e. sym (same-value (sym (ap verdict_reply e) ∙ p))),
-    λ e. verdict_reply-one v (VerdictCases.Told c) (p ∙ ap told e),
+    λ e. verdict_reply-one v (Ok c) (p ∙ ap told e),
   )
 
-  verdict_told : (n : ℕ) → v ≢ VerdictCases.Refused n
+  verdict_told : (f : Fault) → v ≢ Err f
   verdict_told n e = not_both (sym (ap verdict_reply e) ∙ p)
 
 module _ (s : SettledReply) (u : Bool) (p : settled_reply s ≡ told u) where
-  told-bool : (c : Bool) → (s ≡ SettledCases.Told c) ↔ (u ≡ c)
+  told-bool : (c : Bool) → (s ≡ Ok c) ↔ (u ≡ c)
   told-bool c = (
     (λ e. sym (same-value (sym (ap settled_reply e) ∙ p))),
-    λ e. settled_reply-one s (SettledCases.Told c) (p ∙ ap told e),
+    λ e. settled_reply-one s (Ok c) (p ∙ ap told e),
   )
 
-  settled_told : (n : ℕ) → s ≢ SettledCases.Refused n
+  settled_told : (f : Fault) → s ≢ Err f
   settled_told n e = not_both (sym (ap settled_reply e) ∙ p)
 
 is_iff : (u : Bool) → (u ≡ true) ↔ Is u
@@ -231,11 +228,11 @@ module _ (b : List ℕ) where
 
         -- two verdicts that speak of one word
         same : (v : VerdictReply) {x : Word} {z : VerdictReply} → AsRunsSay T x z → (v ≡ told-yes → Accepted T x)
-            → (v ≡ told-no → ¬ Accepted T x) → ((n : ℕ) → v ≢ VerdictCases.Refused n) → v ≢ told-unsure → v ≡ z
-        same (VerdictCases.Refused n) d y m t s = absurd (t n refl)
-        same (VerdictCases.Told Yes) d y m t s = sym (d.yes.1 (y refl))
-        same (VerdictCases.Told No) d y m t s = sym (d.no.1 (m refl))
-        same (VerdictCases.Told Unsure) d y m t s = absurd (s refl)
+            → (v ≡ told-no → ¬ Accepted T x) → ((f : Fault) → v ≢ Err f) → v ≢ told-unsure → v ≡ z
+        same (Err n) d y m t s = absurd (t n refl)
+        same (Ok Yes) d y m t s = sym (d.yes.1 (y refl))
+        same (Ok No) d y m t s = sym (d.no.1 (m refl))
+        same (Ok Unsure) d y m t s = absurd (s refl)
 
 pub demand_2 : Demand2
 demand_2 = as_runs_say

@@ -1,23 +1,18 @@
 -- The three demands, as closed statements about what the public calls answer, as their contracts promise it. Assumes nothing:
 -- these are definitions; that they hold is proved (`demand_1`, `demand_2`, `demand_3`, `never_false`).
-use Rattle.std.specs.Prelude.{ℕ, ◌≡◌, ◌↔◌, ◌≢◌, true, false, length, take}
+use Rattle.std.specs.Prelude.{ℕ, ◌≡◌, ◌↔◌, ◌≢◌, true, false, length, take, Ok, Err}
 use mathlib.Core.List.{List, Memᴰ}
 use Rattle.meaning.specs.Tables.{Table, table_of, horizon}
 use Rattle.meaning.specs.Runs.{letter, Word, ◌⧺◌, Accepted}
 use Rattle.meaning.specs.Sets.{Confs, after, Accepts, Over, Same}
+use Rattle.faults.specs.declared.Fault.{Fault}
 use Rattle.record.specs.declared.Stretch.{Stretch}
 use Rattle.record.specs.declared.Record.{Record}
 use Rattle.record.specs.Pairs.{Pairs}
 use Rattle.record.specs.Records.{blank_record}
 use Rattle.verdicts.specs.declared.Verdict.TheVariants.{Yes, No, Unsure}
 use Rattle.calls.specs.declared.Answer.{Answer}
-use Rattle.calls.specs.declared.VerdictReply.{VerdictReply}
-use Rattle.calls.specs.declared.VerdictReply.TheVariants as VerdictCases
-use Rattle.calls.specs.declared.SettledReply.{SettledReply}
-use Rattle.calls.specs.declared.SettledReply.TheVariants as SettledCases
-use Rattle.calls.specs.declared.CountReply.{CountReply}
-use Rattle.calls.specs.declared.CountReply.TheVariants as CountCases
-use Rattle.calls.specs.Calls.{pairs_of, stepped, start_of, letter_of, span_of, gap_of, verdict_of, settled_of, count_of, verdict_reply, settled_reply, count_reply, reply_number}
+use Rattle.calls.specs.Calls.{pairs_of, stepped, start_of, letter_of, span_of, gap_of, verdict_of, settled_of, count_of, verdict_reply, settled_reply, count_reply, reply_number, VerdictReply, SettledReply, CountReply}
 use Rattle.demands.specs.Order.{Check, AllPass, Answers}
 use Rattle.demands.specs.Counting.{ThereAre}
 use Rattle.demands.specs.Refusals.{StretchOf, start_checks, record_checks, letter_checks, span_checks}
@@ -26,19 +21,19 @@ use Rattle.demands.specs.Streams.{the_start, a_gap, Stream}
 -- ---- what the questions can answer, beside a refusal
 
 abbrev pub told-yes : VerdictReply
-told-yes = VerdictCases.Told Yes
+told-yes = Ok Yes
 
 abbrev pub told-no : VerdictReply
-told-no = VerdictCases.Told No
+told-no = Ok No
 
 abbrev pub told-unsure : VerdictReply
-told-unsure = VerdictCases.Told Unsure
+told-unsure = Ok Unsure
 
 abbrev pub told-settled : SettledReply
-told-settled = SettledCases.Told true
+told-settled = Ok true
 
 abbrev pub told-open : SettledReply
-told-open = SettledCases.Told false
+told-open = Ok false
 
 -- ---- demand 1: anything may be handed in
 
@@ -68,7 +63,7 @@ pub record Answered (b : List ℕ) (r : Record) : Type 0 where
       → Answers (record_checks b r) (reply_number (count_reply v))
   -- what a proper record of 64 places holds and counts are the stretches of its pairs, and that count is told
   pub held : AllPass (record_checks b r) → length r.places ≡ 64 → HoldsStretches b (pairs_of b r) r
-  pub told : AllPass (record_checks b r) → (v : CountReply) → count_reply v ≡ count_of b r → v ≡ CountCases.Told r.count
+  pub told : AllPass (record_checks b r) → (v : CountReply) → count_reply v ≡ count_of b r → v ≡ Ok r.count
   -- and what the record after an accepted letter holds and counts are the stretches that 11 goes by
   pub held_after : (a : ℕ) (x : Answer) → x ≡ letter_of b r a → x.number ≡ 0
       → HoldsStretches b (stepped b r (letter a)) x.next
@@ -84,7 +79,7 @@ pub record AsRunsSay (T : Table) (w : Word) (v : VerdictReply) : Type 0 where
   pub yes : (v ≡ told-yes) ↔ Accepted T w
   pub no : (v ≡ told-no) ↔ (¬ Accepted T w)
   pub never_unsure : v ≢ told-unsure
-  pub never_refused : (n : ℕ) → v ≢ VerdictCases.Refused n
+  pub never_refused : (f : Fault) → v ≢ Err f
 
 -- for every table and room that a start accepted and all calls since then, none of them an accepted gap: w are the symbols
 -- accepted so far, r the record handed back last, and v what `verdict` answers of it
@@ -123,7 +118,7 @@ pub record AsSetsSay (T : Table) (w : Word) (v : VerdictReply) (s : SettledReply
   pub differ : (v ≡ told-unsure) ↔ (FromSome T w × NotFromSome T w)
   pub settled : (s ≡ told-settled) ↔ ToOne T w
   pub left_open : (s ≡ told-open) ↔ (¬ ToOne T w)
-  pub never_refused : (n : ℕ) → (v ≢ VerdictCases.Refused n) × (s ≢ SettledCases.Refused n)
+  pub never_refused : (f : Fault) → (v ≢ Err f) × (s ≢ Err f)
 
 -- for every table and room that a start accepted and all calls since then, with a gap among them: w are the symbols accepted
 -- since the last one, r the record handed back last, and v and s what `verdict` and `settled` answer of it

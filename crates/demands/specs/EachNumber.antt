@@ -5,10 +5,7 @@ use Rattle.std.specs.Prelude.{ℕ, ◌<◌, ◌≡◌, ◌↔◌, List}
 use Rattle.table.specs.Table.{head_of, line_at}
 use Rattle.record.specs.declared.Record.{Record}
 use Rattle.calls.specs.declared.Answer.{Answer}
-use Rattle.calls.specs.declared.VerdictReply.{VerdictReply}
-use Rattle.calls.specs.declared.SettledReply.{SettledReply}
-use Rattle.calls.specs.declared.CountReply.{CountReply}
-use Rattle.calls.specs.Calls.{ProperFor, start_of, letter_of, span_of, gap_of, verdict_of, settled_of, count_of, verdict_reply, settled_reply, count_reply, reply_number}
+use Rattle.calls.specs.Calls.{ProperFor, start_of, letter_of, span_of, gap_of, verdict_of, settled_of, count_of, verdict_reply, settled_reply, count_reply, reply_number, VerdictReply, SettledReply, CountReply}
 use Rattle.demands.specs.Order.{AllPass}
 use Rattle.demands.specs.Refusals.{Short, OtherVersion, OutOfRange, BadLength, BadMasks, BadParts, BadAges, BadRoom, NoLetter, BadSpan, WantsRoom, head_checks, lines_checks, table_checks, record_checks}
 

@@ -2,9 +2,9 @@
 -- kind's. Assumes nothing.
 use mathlib.Core.Path.{◌≡◌, refl}
 use mathlib.Core.List.{[], ◌∷◌, map}
+use Rattle.std.specs.Prelude.{None}
 use Rattle.entries.specs.Entries.{is_entry, got, read_at}
 use Rattle.entries.specs.declared.Symbol.TheVariants.{Letter, Span, Gap}
-use Rattle.entries.specs.declared.Read.TheVariants.{Unreadable}
 
 pub letter_read : read_at (2 ∷ 1 ∷ 7 ∷ []) 0 1 ≡ got 1 (Letter 7) 3
 unfolding read_at is_entry
@@ -32,7 +32,7 @@ read_unjudged = refl
 
 -- the last byte of each is missing
 pub cut_short : map (λ s. read_at s 0 1) ((2 ∷ 1 ∷ []) ∷ (5 ∷ 2 ∷ 1 ∷ 2 ∷ 3 ∷ []) ∷ (1 ∷ []) ∷ [])
-    ≡ Unreadable ∷ Unreadable ∷ Unreadable ∷ []
+    ≡ None ∷ None ∷ None ∷ []
 unfolding read_at is_entry
 cut_short = refl
 
@@ -45,25 +45,25 @@ pub wrong_length : map (λ s. read_at s 0 1)
     ∷ (0 ∷ 3 ∷ [])
     ∷ (2 ∷ 3 ∷ 0 ∷ [])
     ∷ [])
-    ≡ Unreadable ∷ Unreadable ∷ Unreadable ∷ Unreadable ∷ Unreadable ∷ Unreadable ∷ []
+    ≡ None ∷ None ∷ None ∷ None ∷ None ∷ None ∷ []
 unfolding read_at is_entry
 wrong_length = refl
 
 -- kinds 0 and 4, at lengths of the known kinds
 pub unknown_kind : map (λ s. read_at s 0 1)
     ((2 ∷ 0 ∷ 7 ∷ []) ∷ (5 ∷ 4 ∷ 1 ∷ 2 ∷ 3 ∷ 4 ∷ []) ∷ (1 ∷ 0 ∷ []) ∷ (1 ∷ 4 ∷ []) ∷ [])
-    ≡ Unreadable ∷ Unreadable ∷ Unreadable ∷ Unreadable ∷ []
+    ≡ None ∷ None ∷ None ∷ None ∷ []
 unfolding read_at is_entry
 unknown_kind = refl
 
 -- length 0, with kinds 1 and 2, and with nothing behind it
 pub length_zero : map (λ s. read_at s 0 1) ((0 ∷ 1 ∷ 7 ∷ []) ∷ (0 ∷ 2 ∷ 1 ∷ 2 ∷ 3 ∷ 4 ∷ []) ∷ (0 ∷ []) ∷ [])
-    ≡ Unreadable ∷ Unreadable ∷ Unreadable ∷ []
+    ≡ None ∷ None ∷ None ∷ []
 unfolding read_at is_entry
 length_zero = refl
 
 -- of two bytes, from the first, from the last, from the end and past it
 pub past_the_end : map (λ at. read_at (1 ∷ 3 ∷ []) at 1) (0 ∷ 1 ∷ 2 ∷ 3 ∷ [])
-    ≡ got 1 Gap 2 ∷ Unreadable ∷ Unreadable ∷ Unreadable ∷ []
+    ≡ got 1 Gap 2 ∷ None ∷ None ∷ None ∷ []
 unfolding read_at is_entry
 past_the_end = refl

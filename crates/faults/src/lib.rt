@@ -1,33 +1,56 @@
-// Whether a slice of bytes is a table: the number of the first check that fails, 1 to 7, or 0. The slice may have any length
-// and any content, and nothing is written.
+// Whether a slice of bytes is a table, and if not, which check fails first. The slice may have any length and any content, and
+// nothing is written.
 #![tactic(auto)]
 
-ghost use Rattle.std.specs.Prelude.{◌≡◌};
+ghost use Rattle.std.specs.Prelude.{◌≡◌, IfOk};
 ghost use Rattle.base.specs.Checks.{first_of};
-ghost use Rattle.table.specs.Table.{line_at};
+ghost use Rattle.table.specs.Table.{line_at, head_of};
 ghost use Rattle.faults.specs.Faults.{bad_counts, bad_length, bad_masks, bad_parts, bad_greatest, bad_ages};
 ghost use Rattle.faults.specs.Faults.{line_fault, table_fault};
+ghost use Rattle.faults.specs.Numbered.{number, number_of};
 
 use table::{Head, Line};
+
+// Why a call refuses or a session ends, each by its number in document 01.
+#[derive(Clone, Copy, PartialEq, Eq)]
+pub enum Fault {
+    Short = 1,
+    Version,
+    Counts,
+    Length,
+    Masks,
+    Parts,
+    Ages,
+    Improper,
+    Letter,
+    Span,
+    Room,
+    Unreadable,
+}
+
+impl From<Fault> for u8 {
+    ghost from_gives = { λ fault n. n ≡ number fault };
+
+    fn from(fault: Fault) -> u8 {
+        fault as u8
+    }
+}
+
+// A table that passes the checks 1 to 7, and its head.
+#[derive(Clone, Copy)]
+pub struct SoundTable<'a> {
+    pub bytes: &'a [u8],
+    pub head: Head,
+    pub ghost sound: { table_fault bytes.now ≡ 0 },
+    pub ghost headed: { head ≡ head_of bytes.now },
+}
 
 // 3: n, m or e is outside its range.
 #[tactic(auto, using(base::proofs::Rules::tests), unfolding(crate::specs::Faults::bad_counts))]
 fn bad_counts(h: Head) -> bool
     ensures { result ≡ bad_counts h }
 {
-    if h.states == 0 {
-        return true;
-    }
-    if 16 < h.states {
-        return true;
-    }
-    if h.letters == 0 {
-        return true;
-    }
-    if 32 < h.letters {
-        return true;
-    }
-    64 < h.lines
+    h.states == 0 || 16 < h.states || h.letters == 0 || 32 < h.letters || 64 < h.lines
 }
 
 // 4: the stated length is not that of the lines, or not that of the whole slice.
@@ -37,10 +60,7 @@ fn bad_length(h: Head, whole: usize) -> bool
 {
     let stated = h.length as usize;
     let lines = h.lines as usize;
-    if stated != 12 + 12 * lines {
-        return true;
-    }
-    stated != whole
+    stated != 12 + 12 * lines || stated != whole
 }
 
 // 5: a mask has a bit for state n or above.
@@ -48,15 +68,9 @@ fn bad_length(h: Head, whole: usize) -> bool
 fn bad_masks(h: Head) -> bool
     ensures { result ≡ bad_masks h }
 {
-    let initial = base::past_states(h.states, h.initial);
-    if initial {
-        return true;
-    }
-    let standing = base::past_states(h.states, h.standing);
-    if standing {
-        return true;
-    }
-    base::past_states(h.states, h.accepting)
+    base::past_states(h.states, h.initial)
+        || base::past_states(h.states, h.standing)
+        || base::past_states(h.states, h.accepting)
 }
 
 // 6: a line's from or to is n or above, its letter m or above, or its flags above 1.
@@ -64,26 +78,14 @@ fn bad_masks(h: Head) -> bool
 fn bad_parts(h: Head, l: Line) -> bool
     ensures { result ≡ bad_parts h l }
 {
-    if h.states <= l.from {
-        return true;
-    }
-    if h.states <= l.to {
-        return true;
-    }
-    if h.letters <= l.letter {
-        return true;
-    }
-    1 < l.flags
+    h.states <= l.from || h.states <= l.to || h.letters <= l.letter || 1 < l.flags
 }
 
 // U is above the longest age, and not the value that means no bound.
 fn bad_greatest(greatest: u32) -> bool
     ensures { result ≡ bad_greatest greatest }
 {
-    if greatest <= 31_622_400 {
-        return false;
-    }
-    greatest != 4_294_967_295
+    31_622_400 < greatest && greatest != 4_294_967_295
 }
 
 // 7: L is above the longest age, or U is and is not the none value, or U is below L.
@@ -91,75 +93,56 @@ fn bad_greatest(greatest: u32) -> bool
 fn bad_ages(l: Line) -> bool
     ensures { result ≡ bad_ages l }
 {
-    if 31_622_400 < l.least {
-        return true;
-    }
-    let greatest = bad_greatest(l.greatest);
-    if greatest {
-        return true;
-    }
-    l.greatest < l.least
+    31_622_400 < l.least || bad_greatest(l.greatest) || l.greatest < l.least
 }
 
-// The number of one line: 6 before 7.
+// One line: 6 before 7.
 #[tactic(auto, using(base::proofs::Rules::checks), unfolding(crate::specs::Faults::line_fault))]
-fn line_fault(h: Head, l: Line) -> u8
-    ensures { result ≡ line_fault h l }
+fn check_line(h: Head, l: Line) -> Result<(), Fault>
+    ensures { number_of result ≡ line_fault h l }
 {
-    let parts = bad_parts(h, l);
-    let ages = bad_ages(l);
-    if parts {
-        return 6;
+    if bad_parts(h, l) {
+        return Err(Fault::Parts);
     }
-    if ages {
-        return 7;
+    if bad_ages(l) {
+        return Err(Fault::Ages);
     }
-    0
+    Ok(())
 }
 
-// The number of the first bad line, in table order.
-fn lines_fault(t: &[u8], h: Head) -> u8
-    ensures { result ≡ first_of h.lines (λ k. line_fault h (line_at t.now k)) }
+// The first bad line decides, in table order.
+fn check_lines(t: &[u8], h: Head) -> Result<(), Fault>
+    ensures { number_of result ≡ first_of h.lines (λ k. line_fault h (line_at t.now k)) }
 {
-    let mut k = 0;
-    let mut left = h.lines;
-    while 0 < left {
-        let line = table::line_at(t, k);
-        let number = line_fault(h, line);
-        if number != 0 {
-            return number;
-        }
-        k += 1;
-        left -= 1;
+    for k in 0..h.lines {
+        check_line(h, table::line_at(t, k))?;
     }
-    0
+    Ok(())
 }
 
-// The number of the first check that the table t fails, 0 if it passes all.
+// The table t, where it passes every check; the first that it fails decides.
 #[tactic(auto, using(base::proofs::Rules::checks), unfolding(crate::specs::Faults::table_fault))]
-pub fn table_fault(t: &[u8]) -> u8
-    ensures { result ≡ table_fault t.now }
+pub fn check_table(t: &[u8]) -> Result<SoundTable<'_>, Fault>
+    ensures number { number_of result ≡ table_fault t.now }
+    ensures bytes { IfOk result (λ table. table.bytes ≡ t.entry) }
 {
     let whole = t.len();
     if whole < 12 {
-        return 1;
+        return Err(Fault::Short);
     }
     let head = table::head_of(t);
-    let version = head.version != 1;
-    let counts = bad_counts(head);
-    let length = bad_length(head, whole);
-    let masks = bad_masks(head);
-    if version {
-        return 2;
+    if head.version != 1 {
+        return Err(Fault::Version);
     }
-    if counts {
-        return 3;
+    if bad_counts(head) {
+        return Err(Fault::Counts);
     }
-    if length {
-        return 4;
+    if bad_length(head, whole) {
+        return Err(Fault::Length);
     }
-    if masks {
-        return 5;
+    if bad_masks(head) {
+        return Err(Fault::Masks);
     }
-    lines_fault(t, head)
+    check_lines(t, head)?;
+    Ok(SoundTable { bytes: t, head })
 }

@@ -1,7 +1,7 @@
--- What a question answers in a case of its enum crosses as what the question is said to answer (`crossed`). And nothing is lost
--- on the way: whoever reads what crossed has the question's answer again (`verdict_read` and its likes). Assumes nothing.
+-- Nothing of a question's answer is lost where it crosses to C: whoever reads what crossed has it again (`verdict_read` and its
+-- likes). Assumes nothing.
 use Prim.Native.Nat.{ℕ, zero, suc}
-use mathlib.Core.Path.{◌≡◌, refl, sym, ap, ◌∙◌}
+use mathlib.Core.Path.{◌≡◌, refl}
 use mathlib.Core.Bool.{Bool, cond}
 use lib.Dec.{eqb}
 use Rattle.record.specs.Verdicts.{Verdict, says_yes, says_no, unsure}
@@ -10,11 +10,6 @@ use Rattle.hassljung.specs.declared.VerdictAnswer.{VerdictAnswer}
 use Rattle.hassljung.specs.declared.SettledAnswer.{SettledAnswer}
 use Rattle.hassljung.specs.declared.CountAnswer.{CountAnswer}
 use Rattle.hassljung.specs.Crossing.{verdict_answer, settled_answer, count_answer}
-
--- what crosses of the case y, where the answer x is that case and means the reply a
-pub crossed : {A B C : Type 0} (meant : B → Reply A) (crosses : Reply A → C) {x y : B} {a : Reply A} → x ≡ y → meant x ≡ a
-    → crosses (meant y) ≡ crosses a
-crossed meant crosses e h = ap crosses (sym (ap meant e) ∙ h)
 
 -- ---- what C reads: a number that is not 0 is a refusal, and only else is there something told
 

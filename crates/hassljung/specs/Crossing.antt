@@ -1,17 +1,12 @@
 -- What crosses to C of a question's answer: "a definition gives this paper's number and values for each of the enum's cases"
 -- (document 01, Each place and its form). Assumes nothing: these are definitions.
 use Rattle.std.specs.Prelude.{ℕ, Bool, false}
-use Rattle.record.specs.Verdicts.{Verdict, says_yes, says_no, unsure}
+use Rattle.record.specs.Verdicts.{Verdict}
+use Rattle.verdicts.specs.Said.{verdict_number}
 use Rattle.calls.specs.Calls.{Reply, refused, told}
 use Rattle.hassljung.specs.declared.VerdictAnswer.{VerdictAnswer}
 use Rattle.hassljung.specs.declared.SettledAnswer.{SettledAnswer}
 use Rattle.hassljung.specs.declared.CountAnswer.{CountAnswer}
-
--- the verdict as a number, "1 yes, 2 no, 3 unsure" as document 02's sixth request writes it; 0 is none of them
-abbrev pub verdict_number : Verdict → ℕ
-verdict_number says_yes = 1
-verdict_number says_no = 2
-verdict_number unsure = 3
 
 -- "refused, it gives its number and nothing else"; "An accepted call carries the number 0"
 abbrev pub verdict_answer : Reply Verdict → VerdictAnswer

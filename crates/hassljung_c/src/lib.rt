@@ -1,4 +1,5 @@
-// The exports, by C's calling convention: each is the function of `hassljung` of its name, with the same clause. A table crosses as
+// The exports, by C's calling convention: each is the function of `hassljung` of its name, with the same clause, since a crate that
+// C links to is no library that a crate can rest on. A table crosses as
 // a pointer and a length, a record by value; include/hassljung.h has the C side.
 #![tactic(auto)]
 

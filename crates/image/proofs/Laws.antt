@@ -1,19 +1,18 @@
 -- A piece of ages, from x up to `until_of`, lies within what was asked (`until_within`), and at all its ages a letter
 -- leads from a pair to the same states (`image-piece`). What the lines add, taken together, is where the letter leads
 -- (`lines_together`); from two empty sets it leads nowhere (`image_pair-none`). A piece is made line by line (`end_next`,
--- `led-next`, `piece_all`). What the checks tell: `known-horizon`, `known-few`, `known-place`. Assumes nothing.
-use Prim.Native.Nat.{ℕ, zero, suc, ◌+◌, ◌-◌, ◌*◌, ◌^◌, ◌/◌, ◌%◌, ◌≤◌, ◌<◌, min}
+-- `led-next`, `piece_all`). Assumes nothing.
+use Prim.Native.Nat.{ℕ, zero, suc, ◌+◌, ◌-◌, ◌^◌, ◌/◌, ◌%◌, ◌≤◌, ◌<◌, min}
 use mathlib.Core.Path.{◌≡◌, refl, sym, ap, ap₂, ◌∙◌, subst}
 use mathlib.Core.Logic.Iff
 use mathlib.Core.List.{List}
-use mathlib.Core.Bool.{Bool, true, false, cond, not, ◌&&◌, ◌||◌, beq}
-use native.Mathlib.Nat.{le_trans, mod-eq_of_lt, one-mul}
+use mathlib.Core.Bool.{Bool, true, false, cond, ◌&&◌, ◌||◌, beq}
+use native.Mathlib.Nat.{le_trans}
 use native.Mathlib.Numerals.{add-one}
 use native.Mathlib.Omega.{arith}
 use lib.Bits.{or_zero_r}
 use lib.Dec.{T as Is, eqb, leb, ltb}
-use lib.Pow.{pow-lt}
-use borrow.Author.Tests.{not-true, not-false, le-leb, lt-leb, ltb-true, ltb-false, leb-true, leb-false, eq-eqb, ne_eqb, le-ltb, lt-ltb}
+use borrow.Author.Tests.{le-leb, lt-leb, ltb-true, ltb-false, leb-true, leb-false, eq-eqb, ne_eqb, le-ltb, lt-ltb}
 use Rattle.base.specs.Masks.{hasb}
 use Rattle.base.proofs.Tests.{is_true, is_false, bool_ext, eqb_iff, beq_iff}
 use Rattle.base.proofs.Masks.{has-below, hasb-iff, has-shift}
@@ -24,18 +23,13 @@ use Rattle.meaning.specs.Tables.{Table, resets}
 use Rattle.meaning.specs.Ages.{meetsb, image}
 use Rattle.meaning.proofs.Ages.{image-none, image-alike}
 use Rattle.faults.specs.Sound.{Sound}
-use Rattle.faults.proofs.Laws.{sound-horizon}
 use Rattle.record.specs.declared.Pair.{Pair}
-use Rattle.record.specs.declared.Stretch.{Stretch}
-use Rattle.record.specs.declared.Record.{Record}
 use Rattle.record.specs.Pairs.{no_pair, both, together}
-use Rattle.record.specs.Records.{place}
 use Rattle.record.specs.Stretches.{same_pair}
 use Rattle.record.proofs.Stretches.{pair_ext, same_pair-iff}
 use Rattle.record.proofs.Together.{side-together, together-next}
-use Rattle.image.specs.Known.{Known}
 use Rattle.image.specs.declared.Piece.{Piece}
-use Rattle.image.specs.Images.{image_pair, is_open, led_by, led_pair, line_pair, least, line_until, until_of}
+use Rattle.image.specs.Images.{image_pair, is_open, led_pair, line_pair, least, line_until, until_of}
 use Rattle.image.specs.Images.{up_to, piece_of, piece_with}
 
 -- ---- a piece of ages
@@ -112,30 +106,16 @@ module _ (T : Table) (r : Bool) (a x last : ℕ) where
   pub image-piece : (p : Pair) (k : ℕ) → x ≤ k → k ≤ until_of T r a x last → image_pair T r a k p ≡ image_pair T r a x p
   image-piece p k low high = pair_ext _ _ (image-until p.sure k low high) (image-until p.possible k low high)
 
--- ---- what is known where the checks passed
-
-module _ (b : List ℕ) (H : ℕ) (r : Record) (k : Known b H r) where
-  pub known-horizon : H ≤ 31622400
-  known-horizon = rw k.reach (sound-horizon b k.sound)
-
-  pub known-few : r.count ≤ 64
-  known-few = omega (arith, k.proper.fits, k.proper.room_high)
-
-  -- as code reads it: a place in use has its ages in order, and no age whose next would not fit
-  pub known-place : (i : ℕ) (x : Stretch) → i < r.count → x ≡ place r i → (x.first ≤ x.last) × (x.last < 4294967295)
-  known-place i x l e = let here = k.proper.each i l in
-      rw e (here.order, omega (arith, here.within, known-horizon))
-
 -- ---- what the lines add
 
 pub image_pair-none : (T : Table) (r : Bool) (a t : ℕ) → image_pair T r a t no_pair ≡ no_pair
 image_pair-none T r a t = pair_ext _ _ (image-none T r a t) (image-none T r a t)
 
 -- as code asks whether there is anything
-pub image-nothing : (T : Table) (r : Bool) (a t : ℕ) (p none : Pair) (same : Bool) → none ≡ no_pair → same ≡ same_pair p none
-    → same ≡ true → none ≡ image_pair T r a t p
-image-nothing T r a t p none same n e told =
-    let p-none : p ≡ none = (same_pair-iff p none).0 (subst Is (sym (sym e ∙ told)) tt) in
+pub image_nothing : (T : Table) (r : Bool) (a t : ℕ) (p none : Pair) → none ≡ no_pair → true ≡ same_pair p none
+    → none ≡ image_pair T r a t p
+image_nothing T r a t p none n e =
+    let p-none : p ≡ none = (same_pair-iff p none).0 (subst Is e tt) in
     n ∙ sym (image_pair-none T r a t) ∙ ap (image_pair T r a t) (sym (p-none ∙ n))
 
 pub lines_together : (T : Table) (r : Bool) (a t : ℕ) (p : Pair) (k : ℕ) (v : Pair) → k ≡ T.lines
@@ -143,10 +123,6 @@ pub lines_together : (T : Table) (r : Bool) (a t : ℕ) (p : Pair) (k : ℕ) (v 
 unfolding image
 lines_together T r a t p k v all e =
     e ∙ rw all (pair_ext _ _ (side-together true T.lines _) (side-together false T.lines _))
-
--- as code reads it: a sound table has few lines
-pub lines_few : (b : List ℕ) → Sound b → (h : Head) → h ≡ head_of b → h.lines ≤ 64
-lines_few b s h e = rw e s.lines
 
 -- as code reads it: a line of a sound table leads to one of 16 states
 pub leads_low : (b : List ℕ) → Sound b → (h : Head) (l : Line) (k : ℕ) → h ≡ head_of b → k < h.lines → l ≡ line_at b k
@@ -156,21 +132,13 @@ leads_low b s h l k head listed line =
     rw line (omega (arith, here.to, s.states))
 
 -- a state above 15 is in no set of 16 bits
-pub has-none : (m q : ℕ) → m < 2 ^ 16 → 15 < q → false ≡ hasb m q
-has-none m q small l = sym (is_false (hasb m q) (λ h. let z = has-below 16 m q small ((hasb-iff m q).0 h) in omega arith))
+pub has_none : (m q : ℕ) → m < 2 ^ 16 → 15 < q → false ≡ hasb m q
+has_none m q small l = sym (is_false (hasb m q) (λ h. let z = has-below 16 m q small ((hasb-iff m q).0 h) in omega arith))
 
 -- bit q is the remainder by 2 once q bits are shifted out
-pub has-shifted : (m q : ℕ) → eqb (m / 2 ^ q % 2) 1 ≡ hasb m q
-has-shifted m q = bool_ext _ _
+pub has_shifted : (m q : ℕ) → eqb (m / 2 ^ q % 2) 1 ≡ hasb m q
+has_shifted m q = bool_ext _ _
     (Iff.trans (eqb_iff (m / 2 ^ q % 2) 1) (Iff.trans (Iff.symm (has-shift q m)) (Iff.symm (hasb-iff m q))))
-
--- as code asks: a state that is not held leads nowhere, and one that is leads to one state; 1 << to is 2 ^ to
-module _ (l : Line) (m : ℕ) (held : Bool) (e : held ≡ hasb m l.from) where
-  pub led-nowhere : not held ≡ true → 0 ≡ led_by l m
-  led-nowhere h = rw (← e, not-true held h)
-
-  pub led-there : not held ≡ false → l.to < 16 → 1 * 2 ^ l.to % 2 ^ 16 ≡ led_by l m
-  led-there h small = rw (← e, not-false held h) (ap (λ x. x % 2 ^ 16) (one-mul (2 ^ l.to)) ∙ mod-eq_of_lt (pow-lt small))
 
 or_true : (b : Bool) → b || true ≡ true
 or_true true = refl

@@ -1,19 +1,21 @@
--- A letter over the stretches of a record. At age 0: the pieces of a stretch (`led-piece`), the stretches and the ages above H
+-- A letter over the stretches of a record. At age 0: the pieces of a stretch (`led_on`), the stretches and the ages above H
 -- make `led_back` (`led-held`), and with what is kept there and the standing states the pair of age 0 (`newborn_pair`). At
--- the ages above: a piece is kept at once (`kept_piece`), and a stretch behind those before it (`kept_next`), up to H
+-- the ages above: a piece is kept at once (`kept_on`), and a stretch behind those before it (`kept_next`), up to H
 -- (`kept-all`). Assumes nothing.
-use Prim.Native.Nat.{ℕ, zero, suc, ◌+◌, ◌≤◌, ◌<◌, max}
+use Prim.Native.Nat.{ℕ, zero, suc, ◌+◌, ◌≤◌, ◌<◌, max, min}
 use mathlib.Core.Path.{◌≡◌, refl, sym, ap, ap₂, ◌∙◌, subst}
-use mathlib.Core.List.{[]}
+use mathlib.Core.List.{List, []}
 use mathlib.Core.Bool.{Bool, true, false, cond}
 use native.Mathlib.Decide.{dec_le}
 use native.Mathlib.Numerals.{add-one}
 use native.Mathlib.Omega.{arith}
 use lib.Bits.{bit_or, or_zero_r}
 use lib.Dec.{leb}
+use lib.ListN.{get_or, take}
 use borrow.Author.Tests.{le-leb, lt-leb, ne_eqb}
 use Rattle.base.specs.Masks.{union}
-use Rattle.meaning.specs.Tables.{Table, horizon}
+use Rattle.base.proofs.Masks.{ext_has, has-or}
+use Rattle.meaning.specs.Tables.{Table, table_of, horizon}
 use Rattle.meaning.specs.Runs.{letter}
 use Rattle.meaning.specs.Ages.{ages, image, fresh_at, letter_at, step_at}
 use Rattle.record.specs.declared.Pair.{Pair}
@@ -21,36 +23,47 @@ use Rattle.record.specs.declared.Stretch.{Stretch}
 use Rattle.record.specs.declared.Record.{Record}
 use Rattle.record.specs.Pairs.{Pairs, no_pair, both, together, step_pairs}
 use Rattle.record.specs.Stretches.{newest}
-use Rattle.record.specs.Records.{place, pairs_at, over_ages, Proper}
+use Rattle.record.specs.Records.{blank, place, pairs_at, over_ages, Proper}
 use Rattle.record.specs.Building.{empty_record, held_in, pushed}
 use Rattle.record.proofs.Stretches.{pair_ext, newest-run, newest-skip}
 use Rattle.record.proofs.Records.{pairs_at-above}
 use Rattle.record.proofs.Together.{side, side-together, together-run, together-none}
 use Rattle.record.proofs.Places.{pairs-in, pairs-between, together-held}
 use Rattle.record.proofs.Building.{empty_held, push-held}
+use Rattle.known.specs.declared.Known.{Known as Watch}
+use Rattle.known.proofs.Laws.{known_of, known-place}
+use Rattle.record.proofs.Asked.{place_of}
 use Rattle.image.specs.declared.Piece.{Piece}
-use Rattle.image.specs.Images.{image_pair, until_of, piece_of}
+use Rattle.image.specs.Images.{image_pair, until_of, up_to, piece_of}
 use Rattle.image.proofs.Laws.{until_within, image-piece, image_pair-none}
 use Rattle.letters.specs.Letters.{led_back, standing_pair, led_back_in, KeptOn}
+use Rattle.letters.specs.declared.Pieces.{Pieces}
+use Rattle.letters.specs.Pieces.{GivesFirst}
+use Rattle.letters.proofs.Walks.{Walked, piece_next, walk_begun, walk_on, walk_end}
 
 -- ---- age 0, from the ages of a stretch
+
+-- pairs as one, however they are grouped
+or_assoc : (a b c : ℕ) → bit_or (bit_or a b) c ≡ bit_or a (bit_or b c)
+or_assoc a b c = ext_has _ _ (λ i. (λ h. grind (arith, has-or), λ h. grind (arith, has-or)))
+
+both-assoc : (p q r : Pair) → both (both p q) r ≡ both p (both q r)
+both-assoc p q r = pair_ext _ _ (or_assoc p.sure q.sure r.sure) (or_assoc p.possible q.possible r.possible)
 
 -- where the resetting lines lead from age k, if the stretch has begun
 abbrev pub led_back_at : Table → ℕ → Stretch → ℕ → Pair
 led_back_at T a x k = cond (leb x.first k) (image_pair T true a k x.pair) no_pair
 
 module _ (T : Table) (a : ℕ) (x : Stretch) where
-  pub led-none : (out : Pair) → out ≡ no_pair → out ≡ together x.first (led_back_at T a x)
-  led-none out e = e ∙ sym (together-none (led_back_at T a x) x.first (λ k l. rw (lt-leb x.first k l)))
+  led-none : together x.first (led_back_at T a x) ≡ no_pair
+  led-none = together-none (led_back_at T a x) x.first (λ k l. rw (lt-leb x.first k l))
 
   -- the ages of a piece at once
-  pub led-piece : (k : ℕ) (q : Piece) (out next : Pair) → x.first ≤ k → k ≤ x.last → q ≡ piece_of T true a k x.last x.pair
-      → out ≡ together k (led_back_at T a x) → next ≡ both out q.led → next ≡ together (q.end + 1) (led_back_at T a x)
-  led-piece k q out next low high e o d =
-      d
-      ∙ ap₂ both o (ap (λ (q : Piece). q.led) e)
+  led-piece : (k : ℕ) (q : Piece) → x.first ≤ k → k ≤ x.last → q ≡ piece_of T true a k x.last x.pair
+      → both (together k (led_back_at T a x)) q.led ≡ together (suc q.end) (led_back_at T a x)
+  led-piece k q low high e =
+      ap (λ (q : Piece). both (together k (led_back_at T a x)) q.led) e
       ∙ sym (together-run (led_back_at T a x) k q.end _ (until_within T true a k x.last q.end end high).0 same)
-      ∙ ap (λ n. together n (led_back_at T a x)) (sym (add-one q.end))
     where
       end : q.end ≡ until_of T true a k x.last
       end = ap (λ (q : Piece). q.end) e
@@ -59,9 +72,51 @@ module _ (T : Table) (a : ℕ) (x : Stretch) where
       same j l u = rw (le-leb x.first j (omega arith))
           (image-piece T true a k x.last x.pair j l (subst (λ (n : ℕ). j ≤ n) end u))
 
-  pub led-all : (n : ℕ) (out : Pair) → n ≡ suc x.last → out ≡ together n (led_back_at T a x) → out ≡ led_back_in T a x
-  unfolding led_back_in over_ages
-  led-all n out e o = o ∙ ap (λ m. together m (led_back_at T a x)) e
+-- the pieces of s that come before those of t are done, and where they lead to is in `out`, with what was there before
+pub record LedBack (s t : Pieces) (before out : Pair) : Type 0 where
+  pub walked : Walked s t
+  pub led : out ≡ both before (together t.rest.first (led_back_at (table_of s.table.now.bytes.now) s.letter s.rest))
+
+pub led_begun : (s : Pieces) (out : Pair) → s.rest.first ≤ s.rest.last → LedBack s s out out
+led_begun s out l =
+    record {
+      walked = walk_begun s (omega arith);
+      led = rw (led-none (table_of s.table.now.bytes.now) s.letter s.rest)
+          (sym (pair_ext _ _ (or_zero_r out.sure) (or_zero_r out.possible)));
+    }
+
+pub led_on : (s t u : Pieces) (x : Stretch) (before out next : Pair) → s.reset ≡ true → LedBack s t before out
+    → GivesFirst t x u → next ≡ both out x.pair → LedBack s u before next
+led_on s t u x before out next back w g e =
+    let k = t.rest.first in
+    let T = table_of s.table.now.bytes.now in
+    record {
+      walked = walk_on s t u x w.walked g;
+      led =
+          e ∙ ap (λ (p : Pair). both p x.pair) w.led
+          ∙ both-assoc before (together k (led_back_at T s.letter s.rest)) x.pair
+          ∙ ap (both before) (led-piece T s.letter s.rest k (up_to x.last x.pair) w.walked.low
+          (rw w.walked.same.last at g.some) (rw back at (piece_next s t u x w.walked g))
+          ∙ ap (λ n. together n (led_back_at T s.letter s.rest)) (sym g.next));
+    }
+
+pub led_end : (s t : Pieces) (before out : Pair) → LedBack s t before out → t.rest.last < t.rest.first
+    → out ≡ both before (led_back_in (table_of s.table.now.bytes.now) s.letter s.rest)
+unfolding led_back_in over_ages
+led_end s t before out w l =
+    w.led
+    ∙ ap (λ n. both before (together n (led_back_at (table_of s.table.now.bytes.now) s.letter s.rest))) (walk_end s t w.walked l)
+
+-- ---- the stretches of a record, as code goes over them
+
+-- what a watch of the code keeps, and so what is known of its places in use
+module _ (w : Watch) where
+  module _ (items : List Stretch) (e : items ≡ take (min w.held.count 64) w.held.places) (i : ℕ) (l : i < min w.held.count 64) where
+    pub place_at : get_or items i blank ≡ place w.held i
+    place_at = (place_of w.held items i e l).1
+
+    pub place_fits : ((get_or items i blank).first ≤ (get_or items i blank).last) × ((get_or items i blank).last < 4294967295)
+    place_fits = known-place _ _ _ (known_of w) i _ (omega arith) place_at
 
 -- ---- age 0, from the whole record
 
@@ -84,7 +139,7 @@ module _ (T : Table) (a : ℕ) (f : Pairs) where
       one x m = ap (λ n. bit_or (image T false a 0 m) (bit_or n T.standing)) (side-together x (ages (horizon T)) back)
 
   -- above age 0 the letter adds nothing to what it keeps
-  pub later-pair : (k : ℕ) → 1 ≤ k → step_pairs T (letter a) f k ≡ image_pair T false a k (f k)
+  later-pair : (k : ℕ) → 1 ≤ k → step_pairs T (letter a) f k ≡ image_pair T false a k (f k)
   unfolding step_pairs step_at letter_at
   later-pair k l = rw (ne_eqb k 0 (λ e. omega arith)) (pair_ext _ _ (or_zero_r _) (or_zero_r _))
 
@@ -101,18 +156,17 @@ module _ (T : Table) (H n a : ℕ) (r : Record) (reach : H ≡ horizon T) (ok : 
 -- ---- the ages above 0, of a stretch
 
 module _ (T : Table) (a : ℕ) (p : Pair) (lo : ℕ) (so_far : Record) where
-  pub kept-none : KeptOn T a p lo lo so_far so_far
+  kept-none : KeptOn T a p lo lo so_far so_far
   kept-none room above g small same e = e
 
-  pub kept_piece : (k last : ℕ) (q : Piece) (out next : Record) → KeptOn T a p lo k so_far out → lo ≤ k → k ≤ last
-      → q ≡ piece_of T false a k last p → next ≡ pushed out k q.end q.led → KeptOn T a p lo (q.end + 1) so_far next
+  kept_piece : (k last : ℕ) (q : Piece) (out next : Record) → KeptOn T a p lo k so_far out → lo ≤ k → k ≤ last
+      → q ≡ piece_of T false a k last p → next ≡ pushed out k q.end q.led → KeptOn T a p lo (suc q.end) so_far next
   kept_piece k last q out next on low high e d room above g small same s =
       let after = (until_within T false a k last q.end end high).0 in
       d
       ∙ ap (λ (r : Record). pushed r k q.end q.led) (on room above g small (λ j l u. same j l (omega arith)) s)
       ∙ push-held room above (newest k g) k q.end q.led small
       ∙ ap (held_in room above) (sym (newest-run g k q.end q.led after alike))
-      ∙ ap (λ n. held_in room above (newest n g)) (sym (add-one q.end))
     where
       end : q.end ≡ until_of T false a k last
       end = ap (λ (q : Piece). q.end) e
@@ -122,6 +176,30 @@ module _ (T : Table) (a : ℕ) (p : Pair) (lo : ℕ) (so_far : Record) where
           same j (omega arith) (omega arith)
           ∙ image-piece T false a k last p j l (subst (λ (n : ℕ). j ≤ n) end u)
           ∙ sym (ap (λ (q : Piece). q.led) e)
+
+-- the pieces of s that come before those of t are done, and are pushed behind what was there before
+pub record Kept (s t : Pieces) (before out : Record) : Type 0 where
+  pub walked : Walked s t
+  pub kept : KeptOn (table_of s.table.now.bytes.now) s.letter s.rest.pair s.rest.first t.rest.first before out
+
+pub kept_first : (s : Pieces) (out : Record) → s.rest.first ≤ suc s.rest.last → Kept s s out out
+kept_first s out l =
+    record { walked = walk_begun s l; kept = kept-none (table_of s.table.now.bytes.now) s.letter s.rest.pair s.rest.first out }
+
+pub kept_on : (s t u : Pieces) (x : Stretch) (before out next : Record) → s.reset ≡ false → Kept s t before out
+    → GivesFirst t x u → next ≡ pushed out x.first x.last x.pair → Kept s u before next
+kept_on s t u x before out next keeps w g e =
+    let T = table_of s.table.now.bytes.now in
+    record {
+      walked = walk_on s t u x w.walked g;
+      kept = rw g.next (kept_piece T s.letter s.rest.pair s.rest.first before t.rest.first s.rest.last (up_to x.last x.pair)
+          out next w.kept w.walked.low (rw w.walked.same.last at g.some) (rw keeps at (piece_next s t u x w.walked g))
+          (rw g.first at e));
+    }
+
+pub kept_end : (s t : Pieces) (before out : Record) → Kept s t before out → t.rest.last < t.rest.first
+    → KeptOn (table_of s.table.now.bytes.now) s.letter s.rest.pair s.rest.first (suc s.rest.last) before out
+kept_end s t before out w l = rw (walk_end s t w.walked l) at w.kept
 
 -- ---- the ages above 0, of the record
 

@@ -1,2 +1,3 @@
+pub mod Walks
 pub mod Laws
 pub mod Cases

@@ -18,213 +18,191 @@
 // entry 3. The answers in the file stdout are worked out from the document.
 #![tactic(auto)]
 
-ghost use Rattle.std.specs.Prelude.{◌+◌, ◌≤◌, ◌≡◌, length};
-
-use calls::{Answer, CountReply, SettledReply, VerdictReply};
+use calls::Answer;
+use faults::Fault;
 use record::{Pair, Record, Stretch};
 use std::io;
 use std::io::{ErrorKind, Read, Write};
-use verdicts::Verdict;
 
-// 131,072 zeros.
-fn case_buffer() -> [u8; 131072]
-    ensures { 131072 ≡ length result }
-{
-    [0; 131072]
-}
-
-fn pair_from(s: &[u8], at: usize) -> Pair
-    requires { at + 4 ≤ length s.now }
-{
-    Pair {
-        sure: table::be16(s[at], s[at + 1]),
-        possible: table::be16(s[at + 2], s[at + 3]),
-    }
-}
-
-fn stretch_from(s: &[u8], at: usize) -> Stretch
-    requires { at + 12 ≤ length s.now }
-{
-    let pair = pair_from(s, at + 8);
-    Stretch {
-        first: table::be32(s[at], s[at + 1], s[at + 2], s[at + 3]),
-        last: table::be32(s[at + 4], s[at + 5], s[at + 6], s[at + 7]),
-        pair: pair,
-    }
-}
-
-// The record in the first 774 bytes.
-fn record_from(s: &[u8]) -> Record
-    requires { 774 ≤ length s.now }
-{
-    let above = pair_from(s, 770);
-    let mut r = record::empty_record(s[0], above);
-    r.count = s[1];
-    for i in 0..64 {
-        let x = stretch_from(s, 2 + 12 * i);
-        r.places[i] = x;
-    }
-    r
-}
-
-// ---- numbers and records as bytes
-
-fn put_16(out: &mut [u8], at: usize, n: u16)
-    requires { at + 2 ≤ length out.old }
-{
-    out[at] = (n / 256) as u8;
-    out[at + 1] = (n % 256) as u8;
-}
-
-fn put_32(out: &mut [u8], at: usize, n: u32)
-    requires { at + 4 ≤ length out.old }
-{
-    put_16(out, at, (n / 65_536) as u16);
-    put_16(out, at + 2, (n % 65_536) as u16);
-}
-
-fn put_pair(out: &mut [u8], at: usize, p: Pair)
-    requires { at + 4 ≤ length out.old }
-{
-    put_16(out, at, p.sure);
-    put_16(out, at + 2, p.possible);
-}
-
-fn put_stretch(out: &mut [u8], at: usize, x: Stretch)
-    requires { at + 12 ≤ length out.old }
-{
-    put_32(out, at, x.first);
-    put_32(out, at + 4, x.last);
-    let pair = x.pair;
-    put_pair(out, at + 8, pair);
-}
-
-fn put_record(out: &mut [u8], at: usize, r: Record)
-    requires { at + 774 ≤ length out.old }
-{
-    out[at] = r.room;
-    out[at + 1] = r.count;
-    for i in 0..64 {
-        let x = r.places[i];
-        put_stretch(out, at + 2 + 12 * i, x);
-    }
-    let above = r.above;
-    put_pair(out, at + 770, above);
-}
-
-// ---- the answers. Each is written; what answers a `bool` says whether the case could be read.
-
-fn write_answer(output: &mut impl Write, a: Answer) -> io::Result<()> {
-    let mut out = [0u8; 775];
-    out[0] = a.number;
-    let next = a.next;
-    put_record(&mut out, 1, next);
-    output.write_all(&out)
-}
-
-fn write_two(output: &mut impl Write, number: u8, value: u8) -> io::Result<()> {
-    let out = [number, value];
-    output.write_all(&out)
-}
-
-fn answer_table(output: &mut impl Write, t: &[u8]) -> io::Result<()> {
-    let number = faults::table_fault(t);
-    let mut horizon = 0;
-    if number == 0 {
-        horizon = meaning::horizon_of(t);
-    }
-    let mut out = [0u8; 5];
-    out[0] = number;
-    put_32(&mut out, 1, horizon);
-    output.write_all(&out)
-}
-
-fn answer_record(output: &mut impl Write, r: Record, t: &[u8]) -> io::Result<()> {
-    let out = [calls::record_fault(t, r)];
-    output.write_all(&out)
-}
-
-fn answer_start(output: &mut impl Write, s: &[u8]) -> io::Result<bool> {
-    if s.len() < 1 {
-        return Ok(false);
-    }
-    write_answer(output, calls::start(&s[1..], s[0]))?;
-    Ok(true)
-}
-
-fn answer_letter(output: &mut impl Write, r: Record, s: &[u8]) -> io::Result<bool> {
-    if s.len() < 1 {
-        return Ok(false);
-    }
-    write_answer(output, calls::letter(&s[1..], r, s[0]))?;
-    Ok(true)
-}
-
-fn answer_span(output: &mut impl Write, r: Record, s: &[u8]) -> io::Result<bool> {
-    if s.len() < 4 {
-        return Ok(false);
-    }
-    let seconds = table::be32(s[0], s[1], s[2], s[3]);
-    write_answer(output, calls::span(&s[4..], r, seconds))?;
-    Ok(true)
-}
-
-fn answer_verdict(output: &mut impl Write, r: Record, t: &[u8]) -> io::Result<()> {
-    match calls::verdict(t, r) {
-        VerdictReply::Refused(number) => write_two(output, number, 0),
-        VerdictReply::Told(verdict) => match verdict {
-            Verdict::Yes => write_two(output, 0, 1),
-            Verdict::No => write_two(output, 0, 2),
-            Verdict::Unsure => write_two(output, 0, 3),
-        },
-    }
-}
-
-fn answer_settled(output: &mut impl Write, r: Record, t: &[u8]) -> io::Result<()> {
-    match calls::settled(t, r) {
-        SettledReply::Refused(number) => write_two(output, number, 0),
-        SettledReply::Told(same) => write_two(output, 0, same as u8),
-    }
-}
-
-fn answer_count(output: &mut impl Write, r: Record, t: &[u8]) -> io::Result<()> {
-    match calls::count(t, r) {
-        CountReply::Refused(number) => write_two(output, number, 0),
-        CountReply::Told(count) => write_two(output, 0, count),
-    }
-}
-
-// A case that has a record, and what is behind it.
-fn answer_held(output: &mut impl Write, kind: u8, r: Record, s: &[u8]) -> io::Result<bool> {
-    match kind {
-        2 => answer_record(output, r, s)?,
-        4 => return answer_letter(output, r, s),
-        5 => return answer_span(output, r, s),
-        6 => write_answer(output, calls::gap(s, r))?,
-        7 => answer_verdict(output, r, s)?,
-        8 => answer_settled(output, r, s)?,
-        9 => answer_count(output, r, s)?,
-        _ => return Ok(false),
-    }
-    Ok(true)
-}
-
-fn answer_kind(output: &mut impl Write, kind: u8, s: &[u8]) -> io::Result<bool> {
-    if kind == 1 {
-        answer_table(output, s)?;
-        return Ok(true);
-    }
-    if kind == 3 {
-        return answer_start(output, s);
-    }
-    if s.len() < 774 {
-        return Ok(false);
-    }
-    let r = record_from(s);
-    answer_held(output, kind, r, &s[774..])
-}
+// No case is longer.
+const LONGEST: usize = 131_072;
 
 // ---- the cases
+
+// What a case asks.
+#[derive(Clone, Copy)]
+enum Kind {
+    Table,
+    Record,
+    Start,
+    Letter,
+    Span,
+    Gap,
+    Verdict,
+    Settled,
+    Count,
+}
+
+// A byte that is no kind.
+#[derive(Clone, Copy)]
+struct NoKind;
+
+impl TryFrom<u8> for Kind {
+    type Error = NoKind;
+
+    fn try_from(byte: u8) -> Result<Kind, NoKind> {
+        Ok(match byte {
+            1 => Kind::Table,
+            2 => Kind::Record,
+            3 => Kind::Start,
+            4 => Kind::Letter,
+            5 => Kind::Span,
+            6 => Kind::Gap,
+            7 => Kind::Verdict,
+            8 => Kind::Settled,
+            9 => Kind::Count,
+            _ => return Err(NoKind),
+        })
+    }
+}
+
+// ---- the parts of a case. Each is taken off the front of its bytes, where they are all there; what is left is the table.
+
+fn take<const N: usize>(case: &mut &[u8]) -> Option<[u8; N]> {
+    let (front, rest) = case.split_first_chunk()?;
+    *case = rest;
+    Some(*front)
+}
+
+fn take_pair(case: &mut &[u8]) -> Option<Pair> {
+    Some(Pair {
+        sure: u16::from_be_bytes(take(case)?),
+        possible: u16::from_be_bytes(take(case)?),
+    })
+}
+
+fn take_stretch(case: &mut &[u8]) -> Option<Stretch> {
+    Some(Stretch {
+        first: u32::from_be_bytes(take(case)?),
+        last: u32::from_be_bytes(take(case)?),
+        pair: take_pair(case)?,
+    })
+}
+
+fn take_record(case: &mut &[u8]) -> Option<Record> {
+    let [room, count] = take::<2>(case)?;
+    let mut places = [Stretch::default(); 64];
+    for place in &mut places {
+        *place = take_stretch(case)?;
+    }
+    Some(Record {
+        room,
+        count,
+        places,
+        above: take_pair(case)?,
+    })
+}
+
+// ---- the answers
+
+// A table's horizon, whether a record passes, a call's answer, and a question's in a byte.
+enum Reply {
+    Horizon(Result<u32, Fault>),
+    Passes(Result<(), Fault>),
+    Called(Answer),
+    Told(Result<u8, Fault>),
+}
+
+// The reply to a case of that kind, where it has every part that its kind has.
+fn reply_to(kind: Kind, mut case: &[u8]) -> Option<Reply> {
+    Some(match kind {
+        Kind::Table => {
+            Reply::Horizon(faults::check_table(case).map(|_| meaning::horizon_of(case)))
+        }
+        Kind::Record => {
+            let r = take_record(&mut case)?;
+            Reply::Passes(calls::check_record(case, r).map(|_| ()))
+        }
+        Kind::Start => {
+            let [room] = take::<1>(&mut case)?;
+            let blank = Record::empty(0, Pair::default());
+            Reply::Called(Answer::of(blank, calls::start(case, room)))
+        }
+        Kind::Letter => {
+            let r = take_record(&mut case)?;
+            let [letter] = take::<1>(&mut case)?;
+            Reply::Called(Answer::of(r, calls::letter(case, r, letter)))
+        }
+        Kind::Span => {
+            let r = take_record(&mut case)?;
+            let seconds = u32::from_be_bytes(take(&mut case)?);
+            Reply::Called(Answer::of(r, calls::span(case, r, seconds)))
+        }
+        Kind::Gap => {
+            let r = take_record(&mut case)?;
+            Reply::Called(Answer::of(r, calls::gap(case, r)))
+        }
+        Kind::Verdict => {
+            let r = take_record(&mut case)?;
+            Reply::Told(calls::verdict(case, r).map(u8::from))
+        }
+        Kind::Settled => {
+            let r = take_record(&mut case)?;
+            Reply::Told(calls::settled(case, r).map(u8::from))
+        }
+        Kind::Count => {
+            let r = take_record(&mut case)?;
+            Reply::Told(calls::count(case, r))
+        }
+    })
+}
+
+// ---- the answers as bytes. Each is put together first, and written at once.
+
+fn write_pair(out: &mut impl Write, pair: Pair) -> io::Result<()> {
+    out.write_all(&pair.sure.to_be_bytes())?;
+    out.write_all(&pair.possible.to_be_bytes())
+}
+
+fn write_stretch(out: &mut impl Write, x: Stretch) -> io::Result<()> {
+    out.write_all(&x.first.to_be_bytes())?;
+    out.write_all(&x.last.to_be_bytes())?;
+    write_pair(out, x.pair)
+}
+
+fn write_record(out: &mut impl Write, r: &Record) -> io::Result<()> {
+    out.write_all(&[r.room, r.count])?;
+    for x in r.places {
+        write_stretch(out, x)?;
+    }
+    write_pair(out, r.above)
+}
+
+fn write_answer(output: &mut impl Write, answer: &Answer) -> io::Result<()> {
+    let mut bytes = [0; 775];
+    let mut out = &mut bytes[..];
+    out.write_all(&[answer.number])?;
+    write_record(&mut out, &answer.next)?;
+    output.write_all(&bytes)
+}
+
+// The number first, and 0 for what a refused case does not have.
+fn write_reply(output: &mut impl Write, reply: Reply) -> io::Result<()> {
+    match reply {
+        Reply::Horizon(Ok(horizon)) => {
+            let [a, b, c, d] = horizon.to_be_bytes();
+            output.write_all(&[0, a, b, c, d])
+        }
+        Reply::Horizon(Err(fault)) => output.write_all(&[fault.into(), 0, 0, 0, 0]),
+        Reply::Passes(Ok(())) => output.write_all(&[0]),
+        Reply::Passes(Err(fault)) => output.write_all(&[fault.into()]),
+        Reply::Called(answer) => write_answer(output, &answer),
+        Reply::Told(Ok(value)) => output.write_all(&[0, value]),
+        Reply::Told(Err(fault)) => output.write_all(&[fault.into(), 0]),
+    }
+}
+
+// ---- the program
 
 // Fills `part` from the input: whether the input had enough for it.
 fn filled(input: &mut impl Read, part: &mut [u8]) -> io::Result<bool> {
@@ -235,33 +213,36 @@ fn filled(input: &mut impl Read, part: &mut [u8]) -> io::Result<bool> {
     }
 }
 
-// One case, read into space: whether it was read and answered.
-fn answer_case(
+// The next case: its kind, and its bytes, read into space. None where the input ends, or a case has no kind or is too long.
+fn read_case<'a>(
     input: &mut impl Read,
-    output: &mut impl Write,
-    space: &mut [u8],
-) -> io::Result<bool> {
-    let mut head = [0u8; 5];
+    space: &'a mut [u8],
+) -> io::Result<Option<(Kind, &'a [u8])>> {
+    let mut head = [0; 5];
     if !filled(input, &mut head)? {
-        return Ok(false);
+        return Ok(None);
     }
-    let n = table::be32(head[1], head[2], head[3], head[4]) as usize;
-    if space.len() < n {
-        return Ok(false);
+    let [kind, a, b, c, d] = head;
+    let length = u32::from_be_bytes([a, b, c, d]) as usize;
+    let Some(case) = space.get_mut(..length) else {
+        return Ok(None);
+    };
+    if !filled(input, case)? {
+        return Ok(None);
     }
-    let part = &mut space[..n];
-    if !filled(input, part)? {
-        return Ok(false);
-    }
-    answer_kind(output, head[0], part)
+    Ok(Kind::try_from(kind).ok().map(|kind| (kind, &*case)))
 }
 
 fn main(rt: HostRuntime) -> io::Result<()> {
-    let mut buffer = case_buffer();
+    let mut space = [0; LONGEST];
     for _ in 0..u32::MAX {
-        if !answer_case(&mut rt.stdin(), &mut rt.stdout(), &mut buffer)? {
+        let Some((kind, case)) = read_case(&mut rt.stdin(), &mut space)? else {
             break;
-        }
+        };
+        let Some(reply) = reply_to(kind, case) else {
+            break;
+        };
+        write_reply(&mut rt.stdout(), reply)?;
     }
     Ok(())
 }

@@ -3,17 +3,17 @@
 // and hold anything. Sets of states have bit i for state i.
 #![tactic(auto)]
 
-ghost use Rattle.std.specs.Prelude.{◌-◌, ◌≤◌, ◌<◌, ◌≡◌, replicate};
+ghost use Rattle.std.specs.Prelude.{◌-◌, ◌≤◌, ◌<◌, ◌≡◌, ℕ, length, min, take};
 ghost use Rattle.base.specs.Masks.{all};
-ghost use Rattle.record.specs.Pairs.{no_pair, both};
-ghost use Rattle.record.specs.Stretches.{same_pair, touches};
-ghost use Rattle.record.specs.Records.{blank, place, inside, pair_in, pairs_at, pair_okb, stretch_okb, followsb, blankb};
+ghost use Rattle.record.specs.Pairs.{both};
+ghost use Rattle.record.specs.Stretches.{touches};
+ghost use Rattle.record.specs.Records.{place, inside, pair_in, pairs_at, pair_okb, stretch_okb, followsb};
 ghost use Rattle.record.specs.Records.{in_place_okb, place_okb, properb};
 ghost use Rattle.record.specs.Building.{empty_record, overfull, appended, joined, pushed};
 
 // The sure and the possible states at an age.
 #[repr(C)]
-#[derive(Clone, Copy)]
+#[derive(Clone, Copy, PartialEq, Eq, Default)]
 pub struct Pair {
     pub sure: u16,
     pub possible: u16,
@@ -21,14 +21,15 @@ pub struct Pair {
 
 // The ages from first to last, both in, which have one pair.
 #[repr(C)]
-#[derive(Clone, Copy)]
+#[derive(Clone, Copy, PartialEq, Eq, Default)]
 pub struct Stretch {
     pub first: u32,
     pub last: u32,
     pub pair: Pair,
 }
 
-// The stretches are the first `count` of the places; `above` is the pair of all ages above H.
+// The stretches are the first `count` of the places; `above` is the pair of all ages above H. The count stands beside the places,
+// since a record is held without a heap and crosses to C as it is.
 #[repr(C)]
 #[derive(Clone, Copy)]
 pub struct Record {
@@ -38,351 +39,178 @@ pub struct Record {
     pub above: Pair,
 }
 
-// Two empty sets.
-pub fn no_pair() -> Pair
-    ensures { result ≡ no_pair }
-{
-    Pair {
-        sure: 0,
-        possible: 0,
-    }
-}
-
-// Two pairs as one: the sure sets together, and the possible ones.
-pub fn both(p: Pair, q: Pair) -> Pair
-    ensures { result ≡ both p q }
-{
-    Pair {
-        sure: p.sure | q.sure,
-        possible: p.possible | q.possible,
-    }
-}
-
-pub fn same_pair(p: Pair, q: Pair) -> bool
-    ensures { result ≡ same_pair p q }
-{
-    if p.sure != q.sure {
-        return false;
-    }
-    p.possible == q.possible
-}
-
-// Place i, the first being place 0.
-fn place_at(r: Record, i: u8) -> Stretch
-    requires { i < 64 }
-    ensures { result ≡ place r i }
-{
-    let at = i as usize;
-    r.places[at]
-}
-
-// ---- what a record says of an age
-
-// The age is in the stretch, both ends in.
-#[tactic(auto, using(base::proofs::Rules::tests), unfolding(crate::specs::Records::inside))]
-fn is_inside(x: Stretch, age: u32) -> bool
-    ensures { result ≡ inside x age }
-{
-    if age < x.first {
-        return false;
-    }
-    age <= x.last
-}
-
-// The pair of the age in the first n places; two empty sets where none of them has it.
-fn pair_in(r: Record, n: u8, age: u32) -> Pair
-    requires { n ≤ 64 }
-    ensures { result ≡ pair_in r.places n age }
-{
-    let places = r.places;
-    let mut i = n;
-    while 0 < i {
-        let at = (i - 1) as usize;
-        let here = places[at];
-        let found = is_inside(here, age);
-        if found {
-            return here.pair;
+impl Pair {
+    // Two pairs as one: the sure sets together, and the possible ones.
+    pub fn both(self, other: Pair) -> Pair
+        ensures { result ≡ both self other }
+    {
+        Pair {
+            sure: self.sure | other.sure,
+            possible: self.possible | other.possible,
         }
-        i -= 1;
     }
-    no_pair()
+
+    // The sure set is part of the possible set, and no state is n or above.
+    #[tactic(auto, using(base::proofs::Rules::tests), unfolding(crate::specs::Records::pair_okb))]
+    fn is_ok(self, states: u8) -> bool
+        ensures { result ≡ pair_okb states self }
+    {
+        self.sure | self.possible == self.possible && !base::past_states(states, self.possible)
+    }
 }
 
-// The pair of the age; above H it is the one for all of those.
-pub fn pair_at(horizon: u32, r: Record, age: u32) -> Pair
-    ensures { result ≡ pairs_at horizon r age }
-{
-    if horizon < age {
-        return r.above;
+impl Stretch {
+    // The age is in the stretch, both ends in.
+    #[tactic(auto, using(base::proofs::Rules::tests), unfolding(crate::specs::Records::inside))]
+    fn contains(self, age: u32) -> bool
+        ensures { result ≡ inside self age }
+    {
+        self.first <= age && age <= self.last
     }
-    if 64 < r.count {
-        return pair_in(r, 64, age);
+
+    // It is some ages long, within 0 to H, with something possible, and its pair is a good one. Horizon and states are two numbers
+    // here and below, as in the definitions, and no struct.
+    #[tactic(auto, using(base::proofs::Rules::tests), unfolding(crate::specs::Records::stretch_okb))]
+    fn is_ok(self, horizon: u32, states: u8) -> bool
+        ensures { result ≡ stretch_okb horizon states self }
+    {
+        self.last <= horizon
+            && self.first <= self.last
+            && self.pair.possible != 0
+            && self.pair.is_ok(states)
     }
-    pair_in(r, r.count, age)
+
+    // It may come directly behind another: it lies above that, and differs in its pair where it touches it.
+    #[tactic(auto, using(base::proofs::Rules::tests), unfolding(crate::specs::Records::followsb, crate::specs::Stretches::touches))]
+    fn follows(self, before: Stretch) -> bool
+        ensures { result ≡ followsb before self }
+    {
+        before.last < self.first && !before.touches(self.first, self.pair)
+    }
+
+    // Whether it ends directly before the age, and has the pair.
+    #[tactic(auto, using(base::proofs::Rules::tests), unfolding(crate::specs::Stretches::touches))]
+    fn touches(self, age: u32, pair: Pair) -> bool
+        ensures { result ≡ touches self age pair }
+    {
+        self.last < age && self.last + 1 == age && self.pair == pair
+    }
 }
 
-// ---- whether a record is proper
+impl Record {
+    // ---- what a record says of an age
 
-// The sure set is part of the possible set, and no state is n or above.
-#[tactic(auto, using(base::proofs::Rules::tests), unfolding(crate::specs::Records::pair_okb))]
-fn pair_ok(states: u8, p: Pair) -> bool
-    ensures { result ≡ pair_okb states p }
-{
-    let both = p.sure | p.possible;
-    if both != p.possible {
-        return false;
+    // The places in use; all of them where more are counted than there are.
+    pub fn stretches(&self) -> &[Stretch]
+        ensures places { result.now ≡ take (min self.now.count 64) self.now.places }
+        ensures count { length result.now ≡ min self.now.count 64 }
+    {
+        let count = usize::from(self.count).min(64);
+        &self.places[..count]
     }
-    let past = base::past_states(states, p.possible);
-    !past
-}
 
-// It is some ages long, within 0 to H, with something possible, and its pair is a good one.
-#[tactic(auto, using(base::proofs::Rules::tests), unfolding(crate::specs::Records::stretch_okb))]
-fn stretch_ok(horizon: u32, states: u8, x: Stretch) -> bool
-    ensures { result ≡ stretch_okb horizon states x }
-{
-    if horizon < x.last {
-        return false;
-    }
-    if x.last < x.first {
-        return false;
-    }
-    let pair = x.pair;
-    if pair.possible == 0 {
-        return false;
-    }
-    pair_ok(states, pair)
-}
-
-// y may come directly behind x: it lies above x, and differs in its pair where it touches x.
-fn follows(x: Stretch, y: Stretch) -> bool
-    ensures { result ≡ followsb x y }
-{
-    if y.first <= x.last {
-        return false;
-    }
-    if x.last + 1 < y.first {
-        return true;
-    }
-    let p = x.pair;
-    let q = y.pair;
-    let same = same_pair(p, q);
-    !same
-}
-
-// All zeros.
-#[tactic(auto, using(base::proofs::Rules::tests), unfolding(crate::specs::Records::blankb))]
-fn is_blank(x: Stretch) -> bool
-    ensures { result ≡ blankb x }
-{
-    if x.first != 0 {
-        return false;
-    }
-    if x.last != 0 {
-        return false;
-    }
-    let pair = x.pair;
-    if pair.sure != 0 {
-        return false;
-    }
-    pair.possible == 0
-}
-
-// The place before place i; there is none before place 0, for which 0 is answered.
-fn place_before(i: u8) -> u8
-    ensures { result ≡ i - 1 }
-{
-    if i == 0 {
-        return 0;
-    }
-    i - 1
-}
-
-// Place i of a record of that count, behind the place before it: in use it is a proper stretch and may follow that one; otherwise it
-// is zero.
-fn place_ok(horizon: u32, states: u8, count: u8, i: u8, before: Stretch, here: Stretch) -> bool
-    ensures { result ≡ in_place_okb horizon states count i before here }
-{
-    if count <= i {
-        return is_blank(here);
-    }
-    let ok = stretch_ok(horizon, states, here);
-    if !ok {
-        return false;
-    }
-    if i == 0 {
-        return true;
-    }
-    follows(before, here)
-}
-
-fn places_ok(horizon: u32, states: u8, r: Record) -> bool
-    ensures { result ≡ all 64 (place_okb horizon states r) }
-{
-    let places = r.places;
-    let mut i = 0;
-    while i < 64 {
-        let last = place_before(i) as usize;
-        let before = places[last];
-        let at = i as usize;
-        let here = places[at];
-        let ok = place_ok(horizon, states, r.count, i, before, here);
-        if !ok {
-            return false;
+    // The pair of the age; above H it is the one for all of those.
+    pub fn pair_at(&self, horizon: u32, age: u32) -> Pair
+        ensures { result ≡ pairs_at horizon self.now age }
+    {
+        if horizon < age {
+            return self.above;
         }
-        i += 1;
+        let mut pair = Pair::default();
+        for x in self.stretches() {
+            if x.contains(age) {
+                pair = x.pair;
+            }
+        }
+        pair
     }
-    true
-}
 
-// Whether r is a proper record for a table of that horizon and that many states.
-#[tactic(auto, using(base::proofs::Rules::tests), unfolding(crate::specs::Records::properb))]
-pub fn proper(horizon: u32, states: u8, r: Record) -> bool
-    ensures { result ≡ properb horizon states r }
-{
-    if r.room < 1 {
-        return false;
-    }
-    if 64 < r.room {
-        return false;
-    }
-    if r.room < r.count {
-        return false;
-    }
-    let places = places_ok(horizon, states, r);
-    if !places {
-        return false;
-    }
-    let above = r.above;
-    pair_ok(states, above)
-}
+    // ---- whether a record is proper
 
-// ---- how a record is built, in rising order of ages
+    // Place i, behind the place before it: in use it is a proper stretch and may follow that one; otherwise it is zero.
+    #[tactic(auto, using(base::proofs::Rules::tests), unfolding(crate::specs::Records::blankb))]
+    fn place_ok(&self, horizon: u32, states: u8, i: usize, before: Stretch) -> bool
+        requires { i < 64 }
+        ensures { result ≡ in_place_okb horizon states self.now.count i before (place self.now i) }
+    {
+        let here = self.places[i];
+        if usize::from(self.count) <= i {
+            return here == Stretch::default();
+        }
+        here.is_ok(horizon, states) && (i == 0 || here.follows(before))
+    }
 
-// 64 places of all zeros.
-fn no_places() -> [Stretch; 64]
-    ensures { result ≡ replicate 64 blank }
-{
-    [Stretch {
-        first: 0,
-        last: 0,
-        pair: Pair {
-            sure: 0,
-            possible: 0,
-        },
-    }; 64]
-}
+    fn places_ok(&self, horizon: u32, states: u8) -> bool
+        ensures { result ≡ all 64 (place_okb horizon states self.now) }
+    {
+        // Before place 0 stands nothing; what is put here for it is not looked at.
+        let mut before = self.places[0];
+        for i in 0..64 {
+            if !self.place_ok(horizon, states, i, before) {
+                return false;
+            }
+            before = self.places[i];
+        }
+        true
+    }
 
-// No stretch yet.
-pub fn empty_record(room: u8, above: Pair) -> Record
-    ensures { result ≡ empty_record room above }
-{
-    let places = no_places();
-    Record {
-        room: room,
-        count: 0,
-        places: places,
-        above: above,
+    // Whether it is a proper record for a table of that horizon and that many states.
+    #[tactic(auto, using(base::proofs::Rules::tests), unfolding(crate::specs::Records::properb))]
+    pub fn is_proper(&self, horizon: u32, states: u8) -> bool
+        ensures { result ≡ properb horizon states self.now }
+    {
+        1 <= self.room
+            && self.room <= 64
+            && self.count <= self.room
+            && self.places_ok(horizon, states)
+            && self.above.is_ok(states)
     }
-}
 
-// What stands for more stretches than the room takes: a count that no room has, and none of them kept.
-fn overfull_record(room: u8, above: Pair) -> Record
-    ensures { result ≡ overfull room above }
-{
-    let places = no_places();
-    Record {
-        room: room,
-        count: 65,
-        places: places,
-        above: above,
-    }
-}
+    // ---- how a record is built, in rising order of ages
 
-// A stretch more, in the place behind the last, within the room.
-#[tactic(auto, using(base::proofs::Rules::tests), unfolding(crate::specs::Building::appended))]
-fn append(r: Record, x: Stretch) -> Record
-    ensures { result ≡ appended r x }
-{
-    let count = r.count;
-    let above = r.above;
-    if r.room <= count {
-        return overfull_record(r.room, above);
+    // No stretch yet.
+    pub fn empty(room: u8, above: Pair) -> Record
+        ensures { result ≡ empty_record room above }
+    {
+        Record {
+            room,
+            count: 0,
+            places: [Stretch::default(); 64],
+            above,
+        }
     }
-    if 64 <= count {
-        return overfull_record(r.room, above);
-    }
-    let at = count as usize;
-    let more = count + 1;
-    let mut places = r.places;
-    places[at] = x;
-    Record {
-        room: r.room,
-        count: more,
-        places: places,
-        above: above,
-    }
-}
 
-// Whether x ends directly before the age a, and has the pair p.
-fn touch(x: Stretch, a: u32, p: Pair) -> bool
-    ensures { result ≡ touches x a p }
-{
-    if a <= x.last {
-        return false;
+    // A stretch more, in the place behind the last, within the room. Where the room does not take it, a count that no room has
+    // stands for more stretches than that, and none of them is kept: to push cannot fail, so this is no Err.
+    #[tactic(auto, using(base::proofs::Rules::tests), unfolding(crate::specs::Building::appended))]
+    fn append(&mut self, x: Stretch)
+        ensures { self.new ≡ appended self.old x }
+    {
+        if self.room <= self.count || 64 <= self.count {
+            self.count = 65;
+            self.places = [Stretch::default(); 64];
+            return;
+        }
+        self.places[usize::from(self.count)] = x;
+        self.count += 1;
     }
-    if x.last + 1 < a {
-        return false;
-    }
-    let pair = x.pair;
-    same_pair(pair, p)
-}
 
-// The last stretch goes on to the age b.
-#[tactic(auto, unfolding(crate::specs::Building::joined))]
-fn join(r: Record, b: u32) -> Record
-    requires count_nonzero { 0 < r.count }
-    requires count_bound { r.count ≤ 64 }
-    ensures { result ≡ joined r b }
-{
-    let at = (r.count - 1) as usize;
-    let above = r.above;
-    let mut places = r.places;
-    let mut x = places[at];
-    x.last = b;
-    places[at] = x;
-    Record {
-        room: r.room,
-        count: r.count,
-        places: places,
-        above: above,
+    // The ages from first to last, all with the pair, behind the stretches of the ages below: they go on with the last stretch
+    // or begin one, or none where nothing is possible.
+    #[tactic(auto, using(base::proofs::Rules::tests), unfolding(crate::specs::Building::pushed, crate::specs::Building::joined))]
+    pub fn push(&mut self, first: u32, last: u32, pair: Pair)
+        ensures { self.new ≡ pushed self.old first last pair }
+    {
+        if pair.possible == 0 || 64 < self.count {
+            return;
+        }
+        if 0 < self.count {
+            let newest = (self.count - 1) as usize;
+            if self.places[newest].touches(first, pair) {
+                self.places[newest].last = last;
+                return;
+            }
+        }
+        self.append(Stretch { first, last, pair });
     }
-}
-
-// The ages a to b, all with the pair p, behind the stretches of the ages below a: they go on with the last stretch or begin
-// one, or none where nothing is possible.
-#[tactic(auto, using(base::proofs::Rules::tests), unfolding(crate::specs::Building::pushed))]
-pub fn push(r: Record, a: u32, b: u32, p: Pair) -> Record
-    ensures { result ≡ pushed r a b p }
-{
-    if p.possible == 0 {
-        return r;
-    }
-    if 64 < r.count {
-        return r;
-    }
-    let x = Stretch {
-        first: a,
-        last: b,
-        pair: p,
-    };
-    if r.count == 0 {
-        return append(r, x);
-    }
-    let newest = place_at(r, r.count - 1);
-    let on = touch(newest, a, p);
-    if on {
-        return join(r, b);
-    }
-    append(r, x)
 }

@@ -1,7 +1,7 @@
 -- What an entry's call hands back is again a proper record for the same table (`call_known`), and so is what a start hands back
 -- (`start_known`): the checks 1 to 8, made once, hold for the whole session. So a step answers as its call does
 -- (`letter_answered` and its likes), and a line tells what the questions are told (`as_told`). Then how long a line is, and the
--- frame, as code asks. Assumes nothing.
+-- table and the frame, as code asks. Assumes nothing.
 use Prim.Native.Nat.{ℕ, ◌+◌, ◌-◌, ◌≤◌, ◌<◌, min}
 use mathlib.Core.Path.{◌≡◌, sym, ap, ◌∙◌, subst}
 use mathlib.Core.Logic.{◌≢◌}
@@ -10,9 +10,10 @@ use mathlib.Core.Bool.{Bool, true, false, cond, ◌&&◌}
 use native.Mathlib.Decide.{ℕ_discrete}
 use native.Mathlib.Omega.{arith}
 use lib.Dec.{T as Is, eqb, leb, ltb}
-use lib.ListN.{length, take, drop, length-take, length-drop}
+use lib.ListN.{length, get_or, take, drop, length-take, length-drop}
 use lib.Seq.{take_all}
 use borrow.Author.Tests.{eq-eqb, ne_eqb, lt-ltb, le-ltb}
+use Rattle.std.proofs.lemmas.List.{get_or-drop}
 use Rattle.base.proofs.Tests.{and_iff, leb_iff, eqb_iff}
 use Rattle.table.specs.Numbers.{byte, be16_of}
 use Rattle.meaning.specs.Tables.{Table, table_of, horizon}
@@ -22,7 +23,7 @@ use Rattle.record.specs.Pairs.{Pairs}
 use Rattle.record.specs.Records.{pairs_at, Proper}
 use Rattle.record.specs.Verdicts.{Verdict, verdict_at, settled_at}
 use Rattle.record.proofs.Records.{count_used}
-use Rattle.image.specs.Known.{Known}
+use Rattle.known.specs.Known.{Known}
 use Rattle.verdicts.specs.Said.{settled_in}
 use Rattle.verdicts.proofs.Laws.{settled_in_lem}
 use Rattle.calls.specs.declared.Answer.{Answer}
@@ -32,7 +33,7 @@ use Rattle.calls.proofs.Laws.{letter_refused, span_refused, gap_refused}
 use Rattle.calls.proofs.Steps.{letter_known, span_known, gap_known}
 use Rattle.entries.specs.declared.Symbol.{Symbol}
 use Rattle.entries.specs.declared.Symbol.TheVariants.{Letter, Span, Gap}
-use Rattle.text.specs.Text.{line_text, refusal_text, Wrote}
+use Rattle.text.specs.Text.{line_text, refusal_text}
 use Rattle.text.proofs.Laws.{line_length, refusal-length}
 use Rattle.session.specs.Sessions.{framed, table_length, table_in, call_of, held_text, answer_text}
 
@@ -114,19 +115,6 @@ module _ (b : List ℕ) (ordinal : ℕ) (a : Answer) where
   unfolding answer_text
   answer-refused n = rw (ne_eqb a.number 0 n)
 
-  -- as code asks: what was written for it
-  module _ (before after : List ℕ) (at end : ℕ) where
-    pub refused_wrote : a.number ≢ 0 → Wrote before at (refusal_text ordinal a.number) after end
-        → Wrote before at (answer_text b ordinal a) after end
-    refused_wrote n w = subst (λ (text : List ℕ). Wrote before at text after end) (sym (answer-refused n)) w
-
-    pub accepted-wrote : a.number ≡ 0 → (H : ℕ) → Known b H a.next → (v : Verdict) (same : Bool)
-        → v ≡ verdict_at (table_of b) (pairs_at (horizon (table_of b)) a.next) → same ≡ settled_in a.next
-        → Wrote before at (line_text ordinal v same a.next.count) after end
-        → Wrote before at (answer_text b ordinal a) after end
-    accepted-wrote z H k v same e d w = subst (λ (text : List ℕ). Wrote before at text after end)
-        (as_told b H a.next k ordinal v same e d ∙ sym (answer-accepted z)) w
-
   pub answer-length : length (answer_text b ordinal a) ≤ 27
   answer-length = go (ℕ_discrete a.number 0)
     where
@@ -134,22 +122,36 @@ module _ (b : List ℕ) (ordinal : ℕ) (a : Answer) where
       go (yes z) = rw (answer-accepted z) (line_length ordinal _ _ _)
       go (no n) = rw (answer-refused n) (refusal-length ordinal a.number)
 
--- ---- the table's length, as code asks
+-- ---- the table, as code cuts it off from what is left
 
 module _ (s : List ℕ) where
-  pub length_left : length s - 2 < 3 → length s - 2 ≡ table_length s
-  unfolding table_length
-  length_left few = rw (lt-ltb (length s - 2) 3 few)
+  abbrev rest : List ℕ
+  rest = take (length s - 2) (drop 2 s)
 
-  pub length_cut : (stated : ℕ) → stated ≡ be16_of (byte s 3) (byte s 4) → 3 ≤ length s - 2 → length s - 2 < stated
-      → length s - 2 ≡ table_length s
-  unfolding table_length
-  length_cut stated e more cut = rw (le-ltb (length s - 2) 3 more) (omega (arith, e, cut))
+  rest_is : rest ≡ drop 2 s
+  rest_is = take_all (length s - 2) (drop 2 s) (omega (arith, length-drop 2 s))
 
-  pub length_stated : (stated : ℕ) → stated ≡ be16_of (byte s 3) (byte s 4) → 3 ≤ length s - 2 → stated ≤ length s - 2
-      → stated ≡ table_length s
+  rest_long : length rest ≡ length s - 2
+  rest_long = ap length rest_is ∙ length-drop 2 s
+
+  at_place : (i : ℕ) → get_or rest i 0 ≡ byte s (2 + i)
+  at_place i = rw rest_is (get_or-drop 2 s i 0)
+
+  pub table-cut : (n : ℕ) → n ≡ table_length s → take n rest ≡ table_in s
+  unfolding table_in
+  table-cut n e = rw (e, rest_is)
+
+  -- where fewer than 3 bytes are left, and else
+  pub table-all : length rest < 3 → rest ≡ table_in s
+  unfolding table_in table_length
+  table-all few = rw (lt-ltb (length s - 2) 3 (omega (arith, rest_long)))
+
+  pub length_stated : (stated n : ℕ) → stated ≡ be16_of (get_or rest 1 0) (get_or rest 2 0) → n ≡ min stated (length rest)
+      → 3 ≤ length rest → n ≡ table_length s
   unfolding table_length
-  length_stated stated e more whole = rw (le-ltb (length s - 2) 3 more) (omega (arith, e, whole))
+  length_stated stated n e m more =
+      let as_stated : stated ≡ be16_of (byte s 3) (byte s 4) = rw (at_place 1, at_place 2) at e in
+      rw (le-ltb (length s - 2) 3 (omega (arith, rest_long)), ← as_stated, ← rest_long) m
 
 -- ---- the frame, as code asks
 
@@ -171,17 +173,7 @@ module _ (s : List ℕ) (f : framed s ≡ true) where
       go true = omega (arith, framed-within.0)
       go false = omega (arith, framed-within.0)
 
-  -- the slice that is cut off
-  pub table-cut : (n : ℕ) → n ≡ table_length s → take n (take (length s - 2) (drop 2 s)) ≡ table_in s
+  -- and is as long as was cut off
+  pub table-length : length (table_in s) ≡ table_length s
   unfolding table_in
-  table-cut n e = rw (e, take_all (length s - 2) (drop 2 s) (omega (arith, length-drop 2 s)))
-
-  pub table-whole : (n : ℕ) → n ≡ table_length s → n ≡ length (take n (take (length s - 2) (drop 2 s)))
-  table-whole n e = omega (
-    arith,
-    e,
-    table-within,
-    length-take n (take (length s - 2) (drop 2 s)),
-    length-take (length s - 2) (drop 2 s),
-    length-drop 2 s,
-  )
+  table-length = omega (arith, table-within, length-take (table_length s) (drop 2 s), length-drop 2 s)

@@ -1,7 +1,17 @@
--- What is known where a session begins, and where its entries do. Assumes nothing: these are definitions.
-use Rattle.std.specs.Prelude.{ℕ, ◌+◌, ◌-◌, ◌*◌, ◌≤◌, List, length}
-use Rattle.record.specs.declared.Record.{Record}
-use Rattle.image.specs.Known.{Known}
+-- What is known where a session begins, and where its entries do, and which answer a watch that was begun stands for. Assumes
+-- nothing: these are definitions.
+use Rattle.std.specs.Prelude.{ℕ, ◌+◌, ◌-◌, ◌*◌, ◌≤◌, List, length, Result, Ok, Err}
+use Rattle.faults.specs.declared.Fault.{Fault}
+use Rattle.faults.specs.Numbered.{number}
+use Rattle.record.specs.Records.{blank_record}
+use Rattle.known.specs.declared.Known.{Known}
+use Rattle.calls.specs.declared.Answer.{Answer}
+use Rattle.calls.specs.Calls.{accepted, refusal}
+
+-- a start's answer, where an accepted one is told by the watch that it begins, which holds the new record
+abbrev pub begun : Result Known Fault → Answer
+begun (Ok known) = accepted known.held
+begun (Err f) = refusal (number f) blank_record
 
 -- room for every line of a session: a line has at most 27 bytes, and there is one for the start and at most one for every two
 -- of 32,768 bytes, 16,385 in all
@@ -16,10 +26,10 @@ pub record Begins (s : List ℕ) (from size : ℕ) : Type 0 where
   pub within : from ≤ length s
   pub roomy : room_for_lines ≤ size
 
--- the table b passed and r is proper for it; the entries of s begin at the place `from`; and a buffer of `size` bytes, in which
--- the lines are written from place `at` on, has 27 for every two of the bytes that are left, and for one more
-pub record Ready (s b : List ℕ) (H : ℕ) (r : Record) (from at size : ℕ) : Type 0 where
-  pub known : Known b H r
+-- the entries of s begin at the place `from`; and a buffer of `size` bytes, in which the lines are written from place `at` on,
+-- has 27 for every two of the bytes that are left, and for one more. That the table passed, and that the record is proper for
+-- it, is said by the type of the watch
+pub record Ready (s : List ℕ) (from at size : ℕ) : Type 0 where
   pub short : length s ≤ 32768
   pub behind : 2 ≤ from
   pub within : from ≤ length s

@@ -1,6 +1,7 @@
 -- A whole session: from the bytes that the program reads to the bytes that it prints (document 01, The program `watch`). It is
 -- said by what the public calls answer and nothing else. Assumes nothing: these are definitions.
 use Rattle.std.specs.Prelude.{ℕ, zero, suc, ◌+◌, ◌-◌, min, List, [], ◌++◌, Bool, cond, ◌&&◌, eqb, leb, ltb, length, take, drop}
+use Rattle.std.specs.Prelude.{Option, Some, None}
 use Rattle.table.specs.Numbers.{byte, be16_of}
 use Rattle.meaning.specs.Tables.{table_of}
 use Rattle.record.specs.declared.Record.{Record}
@@ -9,8 +10,7 @@ use Rattle.calls.specs.declared.Answer.{Answer}
 use Rattle.calls.specs.Calls.{pairs_of, needed, start_of, letter_of, span_of, gap_of}
 use Rattle.entries.specs.declared.Symbol.{Symbol}
 use Rattle.entries.specs.declared.Symbol.TheVariants.{Letter, Span, Gap}
-use Rattle.entries.specs.declared.Read.{Read}
-use Rattle.entries.specs.declared.Read.TheVariants.{Got, Unreadable}
+use Rattle.entries.specs.declared.Entry.{Entry}
 use Rattle.entries.specs.Entries.{read_at}
 use Rattle.text.specs.Text.{line_text, refusal_text}
 
@@ -49,10 +49,10 @@ answer_text b ordinal a = cond (eqb a.number 0) (held_text b ordinal a.next) (re
 
 -- the line of what was read and, where it was an entry, the rest, by the place behind it, the next ordinal and the record that
 -- is held then. "After 9, 10 or 11 the session goes on. An entry that cannot be read ends the session with 12"
-abbrev pub read_text : List ℕ → Record → ℕ → (ℕ → ℕ → Record → List ℕ) → Read → List ℕ
-read_text b r ordinal rest (Got e next) =
+abbrev pub read_text : List ℕ → Record → ℕ → (ℕ → ℕ → Record → List ℕ) → Option (Entry × ℕ) → List ℕ
+read_text b r ordinal rest (Some (e, next)) =
     answer_text b e.ordinal (call_of b r e.symbol) ++ rest next (suc e.ordinal) (call_of b r e.symbol).next
-read_text b r ordinal rest Unreadable = refusal_text ordinal 12
+read_text b r ordinal rest None = refusal_text ordinal 12
 
 -- the lines of the entries from the place `at` on, of which there are at most `most`; r is held before them. "When the input
 -- is used up after a whole entry, nothing more is printed."

@@ -1,12 +1,11 @@
 -- The session of document 01, One session, whole, as one statement: from its bytes, through reading, checks and calls, to the
 -- text that is printed. Its twelve lines and the line of room 1 are one table. Assumes nothing: these are definitions; that the
 -- statement holds is proved (`the_worked_session`).
-use Rattle.std.specs.Prelude.{ℕ, zero, suc, ◌+◌, ◌≡◌, List, [], ◌∷◌, ◌++◌, map, cond, eqb, get_or, take}
+use Rattle.std.specs.Prelude.{ℕ, zero, suc, ◌+◌, ◌≡◌, List, [], ◌∷◌, ◌++◌, map, cond, eqb, get_or, take, Some, None}
 use Prim.Native.String.{String}
 use Rattle.table.specs.Numbers.{byte}
 use Rattle.record.specs.declared.Record.{Record}
 use Rattle.calls.specs.Calls.{start_of}
-use Rattle.entries.specs.declared.Read.TheVariants.{Got, Unreadable}
 use Rattle.entries.specs.Entries.{read_at}
 use Rattle.text.specs.Text.{ascii, newline}
 use Rattle.session.specs.Sessions.{table_length, table_in, call_of, session_of}
@@ -79,7 +78,7 @@ written x = ascii x.line
 unfoldable pub held_from : List ℕ → List ℕ → ℕ → ℕ → Record → Record
 held_from b s zero at r = r
 held_from b s (suc n) at r = elim (read_at s at 0)
-    [ Got e next ↦ held_from b s n next (call_of b r e.symbol).next | Unreadable ↦ r ]
+    [ Some (e, next) ↦ held_from b s n next (call_of b r e.symbol).next | None ↦ r ]
 
 unfoldable pub held_after : List ℕ → ℕ → Record
 held_after s n = held_from (table_in s) s n (2 + table_length s) (start_of (table_in s) (byte s 1)).next

@@ -1,18 +1,21 @@
 // A whole session: from the bytes that the program reads to the bytes that it prints. The table is checked once, at the start;
-// from then on the record is known to be proper, and the entries take the steps under the calls' checks.
+// from then on the watch is known, and the entries take the steps under the calls' checks.
 #![tactic(auto)]
 
-ghost use Rattle.std.specs.Prelude.{◌≤◌, ◌+◌, ◌≡◌, true, length, take};
+ghost use Rattle.std.specs.Prelude.{◌≤◌, ◌≡◌, true, length, take, IfOk};
 ghost use Rattle.io.specs.Counts.{IsPrefixLen};
-ghost use Rattle.image.specs.Known.{Known};
-ghost use Rattle.text.specs.Text.{Wrote};
-ghost use Rattle.session.specs.Sessions.{framed, table_length, call_of, answer_text, entries_from, started_text};
+ghost use Rattle.calls.specs.Calls.{start_of, answered};
+ghost use Rattle.text.specs.Text.{Fits, Adds};
+ghost use Rattle.session.specs.Sessions.{framed, table_in, call_of, held_text, answer_text, entries_from, started_text};
 ghost use Rattle.session.specs.Sessions.{session_of};
-ghost use Rattle.session.specs.Ready.{room_for_lines, Begins, Ready};
+ghost use Rattle.session.specs.Ready.{room_for_lines, begun, Begins, Ready};
 
-use calls::Answer;
-use entries::{Read, Symbol};
+use entries::{Entry, Symbol};
+use faults::{Fault, SoundTable};
+use known::Known;
+use reader::Reader;
 use record::Record;
+use text::Lines;
 
 // ---- the frame
 
@@ -21,104 +24,105 @@ use record::Record;
 fn is_framed(s: &[u8]) -> bool
     ensures { result ≡ framed s.now }
 {
-    let count = s.len();
-    if count < 2 {
-        return false;
-    }
-    if 32_768 < count {
-        return false;
-    }
-    s[0] == 1
+    2 <= s.len() && s.len() <= 32_768 && s[0] == 1
 }
 
-// How long the table is: as its own bytes 1-2 say, but no longer than what is left.
-fn table_length(s: &[u8]) -> usize
+// The table: as long as its own bytes 1-2 say, but no longer than what is left.
+fn table_in(s: &[u8]) -> &[u8]
     requires { 2 ≤ length s.now }
-    ensures { result ≡ table_length s.now }
+    ensures { result.now ≡ table_in s.now }
 {
-    let left = s.len() - 2;
-    if left < 3 {
-        return left;
-    }
-    let stated = table::be16(s[3], s[4]) as usize;
-    if left < stated {
-        return left;
-    }
-    stated
+    let rest = &s[2..];
+    let [_, high, low, ..] = *rest else {
+        return rest;
+    };
+    let stated = table::be16(high, low) as usize;
+    &rest[..stated.min(rest.len())]
 }
 
-// ---- an entry
+// ---- the watch
 
-// What the entry's call answers.
-fn answer_to(t: &[u8], horizon: u32, r: Record, symbol: Symbol) -> Answer
-    requires { Known t.now horizon r }
-    ensures { result ≡ call_of t.now r symbol }
+// The watch that a start begins. A table that a start took has passed the checks, so it is not checked again.
+fn begin(t: &[u8], room: u8) -> Result<Known<'_>, Fault>
+    ensures answer { begun result ≡ start_of t.now room }
+    ensures table { IfOk result (λ known. known.table.bytes ≡ t.entry) }
+{
+    let held = calls::start(t, room)?;
+    let table = SoundTable {
+        bytes: t,
+        head: table::head_of(t),
+    };
+    Ok(Known {
+        table,
+        horizon: meaning::horizon_of(t),
+        held,
+    })
+}
+
+// What the entry's call answers. Document 01 has a symbol matched by its case.
+fn answer_to(known: &Known<'_>, symbol: Symbol) -> Result<Record, Fault>
+    ensures { answered known.now.held result ≡ call_of known.now.table.bytes.now known.now.held symbol }
 {
     match symbol {
-        Symbol::Letter(letter) => calls::letter_step(t, horizon, r, letter),
-        Symbol::Span(seconds) => calls::span_step(t, horizon, r, seconds),
-        Symbol::Gap => calls::gap_step(t, horizon, r),
+        Symbol::Letter(letter) => calls::letter_step(known, letter),
+        Symbol::Span(seconds) => calls::span_step(known, seconds),
+        Symbol::Gap => Ok(calls::gap_step(known)),
     }
 }
 
-// The line of an answer whose record is known to be proper.
-fn put_answer(
-    t: &[u8],
-    horizon: u32,
-    answer: Answer,
-    ordinal: u16,
-    out: &mut [u8],
-    at: usize,
-) -> usize
-    requires known { Known t.now horizon answer.next }
-    requires roomy { at + 27 ≤ length out.old }
-    ensures { Wrote out.old at (answer_text t.now ordinal answer) out.new result }
+// ---- the lines
+
+// The line of what is held.
+fn put_held(known: &Known<'_>, ordinal: u16, lines: &mut Lines<'_>)
+    requires { Fits lines.old 27 }
+    ensures { Adds lines.old (held_text known.now.table.bytes.now ordinal known.now.held) lines.new }
 {
-    if answer.number != 0 {
-        return text::put_refusal(out, at, ordinal, answer.number);
-    }
-    let r = answer.next;
-    let verdict = verdicts::verdict_of(t, r);
-    let settled = verdicts::is_settled(r);
-    text::put_line(out, at, ordinal, verdict, settled, r.count)
+    let verdict = verdicts::verdict_of(known.table.bytes, &known.held);
+    let settled = verdicts::is_settled(&known.held);
+    lines.put_line(ordinal, verdict, settled, known.held.count);
 }
 
-// The lines of the entries from the place `from` on, behind what was written.
-fn put_entries(
-    s: &[u8],
-    t: &[u8],
-    horizon: u32,
-    first: Record,
-    from: usize,
-    out: &mut [u8],
-    at: usize,
-) -> usize
-    requires { Ready s.now t.now horizon first from at (length out.old) }
-    ensures { Wrote out.old at (entries_from t.now s.now from first) out.new result }
+// The line of an entry. What its call hands back is held from now on; a refused one leaves the watch as it was.
+fn put_entry(known: &mut Known<'_>, entry: Entry, lines: &mut Lines<'_>)
+    requires { Fits lines.old 27 }
+    ensures text { Adds lines.old
+        (answer_text known.old.table.bytes.now entry.ordinal (call_of known.old.table.bytes.now known.old.held entry.symbol))
+        lines.new }
+    ensures table { known.new.table.bytes ≡ known.old.table.bytes }
+    ensures held { known.new.held ≡ (call_of known.old.table.bytes.now known.old.held entry.symbol).next }
 {
-    let count = s.len();
-    let mut r = first;
-    let mut place = from;
-    let mut ordinal: u16 = 1;
-    let mut end = at;
-    while place < count {
-        let read = reader::entry_at(s, place, ordinal);
-        let Read::Got(entry, next) = read else {
-            return text::put_refusal(out, end, ordinal, 12);
+    match answer_to(known, entry.symbol) {
+        Ok(held) => {
+            known.held = held;
+            put_held(known, entry.ordinal, lines);
+        }
+        Err(fault) => lines.put_refusal(entry.ordinal, fault.into()),
+    }
+}
+
+// The lines of the entries from the place `from` on.
+fn put_entries(s: &[u8], mut known: Known<'_>, from: usize, lines: &mut Lines<'_>)
+    requires { Ready s.now from lines.old.at (length lines.old.out.now) }
+    ensures { Adds lines.old (entries_from known.entry.table.bytes.now s.now from known.entry.held) lines.new }
+{
+    let mut reader = Reader::new(s, from);
+    let mut ordinal = 1;
+    // Nothing but the bytes left says how many entries there are, and a refused one counts: so no `for` gives the ordinals.
+    while reader.at < s.len() {
+        let Some((entry, next)) = reader.next(ordinal) else {
+            lines.put_refusal(ordinal, Fault::Unreadable.into());
+            return;
         };
-        let symbol = entry.symbol;
-        let answer = answer_to(t, horizon, r, symbol);
-        end = put_answer(t, horizon, answer, entry.ordinal, out, end);
-        r = answer.next;
-        place = next;
+        put_entry(&mut known, entry, lines);
+        reader = reader.moved(next);
         ordinal += 1;
     }
-    end
 }
 
 // ---- the session
 
-// Room for every line of a session: 27 bytes for each, for the start's and for one for every two of 32,768 bytes.
+// Room for every line of a session: 27 bytes for each, for the start's and for one for every two of 32,768 bytes. The program lends
+// it, since there is no heap.
 pub const LINES: usize = 442_395;
 
 pub fn lines_buffer() -> [u8; LINES]
@@ -128,29 +132,32 @@ pub fn lines_buffer() -> [u8; LINES]
 }
 
 // The start's line and, where it is accepted, the entries behind the table t.
-fn put_begun(s: &[u8], t: &[u8], room: u8, from: usize, out: &mut [u8]) -> usize
-    requires { Begins s.now from (length out.old) }
-    ensures { Wrote out.old 0 (started_text t.now s.now room from) out.new result }
+fn put_begun(s: &[u8], t: &[u8], room: u8, from: usize, lines: &mut Lines<'_>)
+    requires begins { Begins s.now from (length lines.old.out.now) }
+    requires empty { lines.old.at ≡ 0 }
+    ensures { Adds lines.old (started_text t.now s.now room from) lines.new }
 {
-    let answer = calls::start(t, room);
-    if answer.number != 0 {
-        return text::put_refusal(out, 0, 0, answer.number);
+    match begin(t, room) {
+        Ok(known) => {
+            put_held(&known, 0, lines);
+            put_entries(s, known, from, lines);
+        }
+        Err(fault) => lines.put_refusal(0, fault.into()),
     }
-    let horizon = meaning::horizon_of(t);
-    let end = put_answer(t, horizon, answer, 0, out, 0);
-    let first = answer.next;
-    put_entries(s, t, horizon, first, from, out, end)
 }
 
-// The lines of a session that is framed: the table is cut off, and the entries begin behind it.
-fn put_framed(s: &[u8], out: &mut [u8]) -> usize
-    requires in_frame { framed s.now ≡ true }
-    requires roomy { room_for_lines ≤ length out.old }
-    ensures { Wrote out.old 0 (session_of s.now) out.new result }
+// The lines of a session: where it is framed the table is cut off, and the entries begin behind it.
+fn put_session(s: &[u8], lines: &mut Lines<'_>)
+    requires roomy { room_for_lines ≤ length lines.old.out.now }
+    requires empty { lines.old.at ≡ 0 }
+    ensures { Adds lines.old (session_of s.now) lines.new }
 {
-    let count = table_length(s);
-    let rest = &s[2..];
-    put_begun(s, &rest[..count], s[1], 2 + count, out)
+    if !is_framed(s) {
+        lines.put_refusal(0, Fault::Unreadable.into());
+        return;
+    }
+    let table = table_in(s);
+    put_begun(s, table, s[1], 2 + table.len(), lines);
 }
 
 // The session s: the bytes to print stand at the start of out, as many as is answered.
@@ -159,9 +166,7 @@ pub fn session(s: &[u8], out: &mut [u8; LINES]) -> usize
     ensures count { result ≡ length (session_of s.now) }
     ensures within { IsPrefixLen result out.new }
 {
-    let framed = is_framed(s);
-    if framed {
-        return put_framed(s, out);
-    }
-    text::put_refusal(out, 0, 0, 12)
+    let mut lines = Lines::new(out);
+    put_session(s, &mut lines);
+    lines.len()
 }

@@ -1,7 +1,7 @@
--- The record at a start, at a gap and after a span. The first two are one push (`start_pushed`, `gap_pushed`). After a span the
--- record is built place by place: `so_far` begins with the pair above H (`so_far_none`, by `span_above`), takes one place more
--- (`so_far_next`), and is the record that holds the pairs once all are taken (`so_far_all`). A step of the meaning is this span
--- (`span_stepped`). Assumes nothing.
+-- The record at a start, at a gap and after a span. The first two are one push (`start_pushed`, `gap_pushed`). After a span,
+-- each stretch has its part above H (`passed-one`, `passed-none`), and the record is built place by place: `so_far` begins with
+-- the pair above H (`so_far_none`, by `span_above`), takes one place more (`so_far_next`), and is the record that holds the pairs
+-- once all are taken (`so_far_all`). A step of the meaning is this span (`span_stepped`). Assumes nothing.
 use Prim.Native.Nat.{ℕ, zero, suc, ◌+◌, ◌-◌, ◌^◌, ◌≤◌, ◌<◌, suc-le-suc, min}
 use mathlib.Core.Path.{◌≡◌, refl, sym, ap, ap₂, ◌∙◌, subst}
 use mathlib.Core.Logic.{◌⊎◌, inl, inr}
@@ -13,6 +13,7 @@ use native.Mathlib.Numerals.{add-one}
 use native.Mathlib.Omega.{arith}
 use lib.Dec.{ltb, eqb-suc-zero}
 use lib.ListN.{length, length-reverse}
+use Rattle.std.specs.Int.Bits.{or_zero_r}
 use borrow.Author.Tests.{le-ltb, lt-ltb, le-leb, lt-leb}
 use Rattle.base.specs.Masks.{pick, union}
 use Rattle.meaning.specs.Tables.{Table, horizon}
@@ -62,6 +63,13 @@ unfolding gap_pairs
 gap_pushed T H room low high = one_pushed room H (gap_pairs T) 0 H (gap_pairs T 0) (gap_newest T H) low high
 
 -- ---- a span
+
+-- what the stretch x leaves above H, put to what others leave: its pair, or nothing
+pub passed-one : (H s : ℕ) (x : Stretch) (out : Pair) → H < x.last + s → both out x.pair ≡ both out (passed_in H s x)
+passed-one H s x out l = rw (lt-ltb H (x.last + s) l) refl
+
+pub passed-none : (H s : ℕ) (x : Stretch) (out : Pair) → x.last + s ≤ H → out ≡ both out (passed_in H s x)
+passed-none H s x out l = rw (le-ltb H (x.last + s) l, or_zero_r out.sure, or_zero_r out.possible) refl
 
 -- the step of a table by a span goes by its horizon alone
 pub span_stepped : (T : Table) (s : ℕ) (f : Pairs) → span_pairs (horizon T) s f ≡ step_pairs T (span s) f

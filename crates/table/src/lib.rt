@@ -5,10 +5,10 @@
 
 ghost use Rattle.std.specs.Prelude.{◌≡◌};
 ghost use Rattle.table.specs.Numbers.{be16_of, be32_of};
-ghost use Rattle.table.specs.Table.{no_head, no_line, head_of, line_at};
+ghost use Rattle.table.specs.Table.{head_of, line_at};
 
 // The first 12 bytes. The sets of states, initial, standing and accepting, have bit i for state i.
-#[derive(Clone, Copy)]
+#[derive(Clone, Copy, Default)]
 pub struct Head {
     pub version: u8,
     pub length: u16,
@@ -22,7 +22,7 @@ pub struct Head {
 
 // From a state to a state on a letter, at the ages from least to greatest, both in. A greatest of 4,294,967,295 means no
 // upper bound; flag 1 resets the clock.
-#[derive(Clone, Copy)]
+#[derive(Clone, Copy, Default)]
 pub struct Line {
     pub from: u8,
     pub letter: u8,
@@ -32,48 +32,19 @@ pub struct Line {
     pub greatest: u32,
 }
 
-// The number whose two bytes are given, the greatest place first.
+// The number whose two bytes are given, the greatest place first. It and the next are the library's conversion at two widths: one
+// generic function over both would be no plainer than these lines.
 pub fn be16(high: u8, low: u8) -> u16
     ensures { result ≡ be16_of high low }
 {
-    (high as u16) * 256 + (low as u16)
+    u16::from_be_bytes([high, low])
 }
 
 // The number whose four bytes are given, the greatest place first.
 pub fn be32(a: u8, b: u8, c: u8, d: u8) -> u32
     ensures { result ≡ be32_of a b c d }
 {
-    (a as u32) * 16_777_216 + (b as u32) * 65_536 + (c as u32) * 256 + (d as u32)
-}
-
-// What is read where the head is missing.
-fn no_head() -> Head
-    ensures { result ≡ no_head }
-{
-    Head {
-        version: 0,
-        length: 0,
-        states: 0,
-        letters: 0,
-        initial: 0,
-        standing: 0,
-        accepting: 0,
-        lines: 0,
-    }
-}
-
-// What is read where a line is missing.
-fn no_line() -> Line
-    ensures { result ≡ no_line }
-{
-    Line {
-        from: 0,
-        letter: 0,
-        to: 0,
-        flags: 0,
-        least: 0,
-        greatest: 0,
-    }
+    u32::from_be_bytes([a, b, c, d])
 }
 
 // The head of the table t; all 0 where t has fewer than 12 bytes.
@@ -82,7 +53,7 @@ pub fn head_of(t: &[u8]) -> Head
     ensures { result ≡ head_of t.now }
 {
     if t.len() < 12 {
-        return no_head();
+        return Head::default();
     }
     Head {
         version: t[0],
@@ -104,7 +75,7 @@ pub fn line_at(t: &[u8], k: u8) -> Line
 {
     let at = 12 + 12 * (k as usize);
     if t.len() < at + 12 {
-        return no_line();
+        return Line::default();
     }
     Line {
         from: t[at],

@@ -1,6 +1,5 @@
--- Writing into a buffer: a copy of a word, byte for byte, and one word after another; numbers in decimal; and how long a line
--- is at most. Assumes nothing.
-use Prim.Native.Nat.{ℕ, zero, suc, ◌+◌, ◌-◌, ◌/◌, ◌^◌, ◌≤◌, ◌<◌}
+-- Writing into a buffer, one word after another; numbers in decimal; and how long a line is at most. Assumes nothing.
+use Prim.Native.Nat.{ℕ, zero, suc, ◌-◌, ◌/◌, ◌^◌, ◌≤◌, ◌<◌}
 use mathlib.Core.Path.{◌≡◌, refl, sym, ap, ◌∙◌}
 use mathlib.Core.List.{List, ◌++◌, append_assoc}
 use mathlib.Core.Bool.{Bool, true, false, cond}
@@ -8,29 +7,29 @@ use native.Mathlib.Nat.{not-suc-le-zero, pow-le-pow_right}
 use native.Mathlib.Numerals.{add-one}
 use native.Mathlib.Omega.{arith}
 use lib.Dec.{lit≤}
-use lib.ListN.{length, get_or, set, take, length-append}
-use lib.Seq.{length-take-le, take-take, take_at, paste, paste-suc, take-paste, take-length}
+use lib.ListN.{length, take, length-append}
+use lib.Seq.{length-take-le, take-take, take_at}
 use borrow.Author.Tests.{lt-ltb, le-ltb}
 use Rattle.io.specs.Digits.{last_digits, IsDigitCount}
 use Rattle.record.specs.Verdicts.{Verdict, says_yes, says_no, unsure}
-use Rattle.text.specs.Text.{places, decimal, verdict_word, settled_word, line_text, refusal_text, Wrote}
+use Rattle.text.specs.declared.Lines.{Lines}
+use Rattle.text.specs.Text.{places, decimal, verdict_word, settled_word, line_text, refusal_text, Wrote, Adds}
 
 -- ---- writing
-
--- the buffer has the first i bytes of a word: one byte more, and the whole word
-module _ (before word after : List ℕ) (at i : ℕ) (fits : at + length word ≤ length before)
-    (copied : after ≡ paste before at word i) where
-  pub copy_next : i < length word → set after (at + i) (get_or word i 0) ≡ paste before at word (i + 1)
-  copy_next more = rw (copied, add-one) (paste-suc before at word i 0 (omega arith) more)
-
-  pub copy_done : i ≡ length word → Wrote before at word after (at + length word)
-  copy_done all = (refl, rw (copied, all, take-paste before at word (length word) (omega arith) (omega arith), take-length))
 
 -- one word after another
 pub wrote_then : (before mid after : List ℕ) (at here end : ℕ) (v w : List ℕ)
     → Wrote before at v mid here → Wrote mid here w after end → Wrote before at (v ++ w) after end
 wrote_then before mid after at here end v w first second =
     (simp length-append (omega arith), second.1 ∙ rw (first.1, append_assoc))
+
+-- the same of the lines, and the buffer is the same still
+pub adds_then : {x y z : Lines} {v w : List ℕ} → Adds x v y → Adds y w z → Adds x (v ++ w) z
+adds_then first second = record {
+  same_buffer = second.same_buffer ∙ first.same_buffer;
+  same_length = second.same_length ∙ first.same_length;
+  wrote = wrote_then _ _ _ _ _ _ _ _ first.wrote second.wrote;
+}
 
 -- two results of one writing are the same, as far as the text goes
 pub wrote-settles : (before word x y : List ℕ) (at m n : ℕ) → Wrote before at word x m → Wrote before at word y n
@@ -83,9 +82,6 @@ cond_within false m x y p q = q
 pub decimal-length : (n : ℕ) → length (decimal n) ≤ 5
 unfolding decimal
 decimal-length n = rw digits_length (search (cond_within, lit≤, tt) depth 8)
-
-pub number_end : (before after : List ℕ) (at end n : ℕ) → Wrote before at (decimal n) after end → end ≤ at + 5
-number_end before after at end n w = omega (arith, decimal-length n)
 
 pub verdict_length : (v : Verdict) → length (verdict_word v) ≤ 7
 verdict_length says_yes = omega arith

@@ -1,10 +1,11 @@
 -- The lines that the program prints, as lists of bytes in ASCII (document 01, The program `watch`): "Each output line has the
 -- ordinal (0 for the start), the verdict, `settled` or `open`, and the count, with one space between and a newline after."
 -- Assumes nothing: these are definitions.
-use Rattle.std.specs.Prelude.{ℕ, ◌+◌, ◌≡◌, List, [], ◌∷◌, ◌++◌, Bool, cond, ltb, length, take}
+use Rattle.std.specs.Prelude.{ℕ, ◌+◌, ◌≤◌, ◌≡◌, List, [], ◌∷◌, ◌++◌, Bool, cond, ltb, length, take}
 use Prim.Native.Char.{code}
 use Prim.Native.String.{String, [] as no_text, ◌∷◌ as ◌and_then◌}
 use Rattle.io.specs.Digits.{last_digits}
+use Rattle.text.specs.declared.Lines.{Lines}
 use Rattle.record.specs.Verdicts.{Verdict, says_yes, says_no, unsure}
 
 -- the bytes of a text of ASCII characters
@@ -63,3 +64,13 @@ refusal_text ordinal number = decimal ordinal ++ (space ∷ refused_text) ++ las
 -- before `at`, and then the word. So what stood before `at` stays (`wrote_kept`); of what stands from `end` on nothing is said
 abbrev pub Wrote : List ℕ → ℕ → List ℕ → List ℕ → ℕ → Type 0
 Wrote before at word after end = (end ≡ at + length word) × (take end after ≡ take at before ++ word)
+
+-- behind what stands written there is room for n bytes more
+abbrev pub Fits : Lines → ℕ → Type 0
+Fits lines n = lines.at + n ≤ length lines.out.now
+
+-- the word was written behind what stood written, in the same lent buffer, which is as long as it was
+pub record Adds (before : Lines) (word : List ℕ) (after : Lines) : Type 0 where
+  pub same_buffer : after.out.ghost_name ≡ before.out.ghost_name
+  pub same_length : length after.out.now ≡ length before.out.now
+  pub wrote : Wrote before.out.now before.at word after.out.now after.at

@@ -1,92 +1,108 @@
 // The lines that the program prints, written into a lent buffer: numbers in decimal, and fixed byte strings between them. Each
-// function writes from a place on and answers the place behind what it wrote; what stands before that place stays.
+// method writes behind what stands written, which stays.
 #![tactic(auto)]
 
-ghost use Rattle.std.specs.Prelude.{◌+◌, ◌≤◌, length};
+ghost use Rattle.std.specs.Prelude.{◌≡◌, ◌+◌, ◌≤◌, length};
 ghost use Rattle.verdicts.specs.Said.{verdict_case};
-ghost use Rattle.text.specs.Text.{decimal, verdict_word, settled_word, last_word, line_text, refusal_text, Wrote};
+ghost use Rattle.text.specs.Text.{decimal, verdict_word, settled_word, last_word, line_text, refusal_text, Fits, Adds};
 
 use verdicts::Verdict;
 
-// The word, byte for byte.
-fn put(out: &mut [u8], at: usize, word: &[u8]) -> usize
-    requires { at + length word.now ≤ length out.old }
-    ensures { Wrote out.old at word.now out.new result }
-{
-    let count = word.len();
-    let mut i = 0;
-    while i < count {
-        out[at + i] = word[i];
-        i += 1;
-    }
-    at + count
-}
-
-// A number in decimal, at most 5 digits.
-fn put_number(out: &mut [u8], at: usize, n: u16) -> usize
-    requires { at + 5 ≤ length out.old }
-    ensures { Wrote out.old at (decimal n) out.new result }
-{
-    let mut digits = [0u8; 20];
-    let count = io::decimal(n as u64, &mut digits);
-    put(out, at, &digits[..count])
-}
-
-fn put_verdict(out: &mut [u8], at: usize, verdict: Verdict) -> usize
-    requires { at + 7 ≤ length out.old }
-    ensures { Wrote out.old at (verdict_word (verdict_case verdict)) out.new result }
+// Document 01 has fixed byte strings, which are put as they are: a `Display` would need a formatter between.
+fn verdict_bytes(verdict: Verdict) -> &'static [u8]
+    ensures text { result.now ≡ verdict_word (verdict_case verdict) }
+    ensures short { length result.now ≤ 7 }
 {
     match verdict {
-        Verdict::Yes => put(out, at, b" yes"),
-        Verdict::No => put(out, at, b" no"),
-        Verdict::Unsure => put(out, at, b" unsure"),
+        Verdict::Yes => b" yes",
+        Verdict::No => b" no",
+        Verdict::Unsure => b" unsure",
     }
 }
 
-fn put_settled(out: &mut [u8], at: usize, settled: bool) -> usize
-    requires { at + 8 ≤ length out.old }
-    ensures { Wrote out.old at (settled_word settled) out.new result }
+fn settled_bytes(settled: bool) -> &'static [u8]
+    ensures text { result.now ≡ settled_word settled }
+    ensures short { length result.now ≤ 8 }
 {
-    if settled {
-        return put(out, at, b" settled");
+    if settled { b" settled" } else { b" open" }
+}
+
+// A lent buffer, whose first `at` bytes stand written: what is promised speaks of the buffer, which its owner reads again. Each method
+// asks for the room that it takes, since to put a line cannot fail.
+#[derive(Drop)]
+pub struct Lines<'a> {
+    pub out: &'a mut [u8],
+    pub at: usize,
+}
+
+impl<'a> Lines<'a> {
+    // Nothing stands written.
+    pub fn new(out: &'a mut [u8]) -> Lines<'a>
+        ensures lent { result.out ≡ out.entry }
+        ensures empty { result.at ≡ 0 }
+    {
+        Lines { out, at: 0 }
     }
-    put(out, at, b" open")
-}
 
-// The number that a line ends with.
-fn put_last(out: &mut [u8], at: usize, n: u8) -> usize
-    requires { at + 7 ≤ length out.old }
-    ensures { Wrote out.old at (last_word n) out.new result }
-{
-    let number = put(out, at, b" ");
-    let end = put_number(out, number, n as u16);
-    put(out, end, b"\n")
-}
+    // How many bytes stand written.
+    pub fn len(&self) -> usize
+        ensures { result ≡ self.now.at }
+    {
+        self.at
+    }
 
-// The line of an accepted start or entry.
-pub fn put_line(
-    out: &mut [u8],
-    at: usize,
-    ordinal: u16,
-    verdict: Verdict,
-    settled: bool,
-    count: u8,
-) -> usize
-    requires { at + 27 ≤ length out.old }
-    ensures { Wrote out.old at (line_text ordinal (verdict_case verdict) settled count) out.new result }
-{
-    let said = put_number(out, at, ordinal);
-    let held = put_verdict(out, said, verdict);
-    let last = put_settled(out, held, settled);
-    put_last(out, last, count)
-}
+    // The word, byte for byte.
+    fn put(&mut self, word: &[u8])
+        requires { Fits self.old (length word.now) }
+        ensures { Adds self.old word.now self.new }
+    {
+        let end = self.at + word.len();
+        self.out[self.at..end].copy_from_slice(word);
+        self.at = end;
+    }
 
-// The line of a refused start or entry.
-pub fn put_refusal(out: &mut [u8], at: usize, ordinal: u16, number: u8) -> usize
-    requires { at + 27 ≤ length out.old }
-    ensures { Wrote out.old at (refusal_text ordinal number) out.new result }
-{
-    let word = put_number(out, at, ordinal);
-    let last = put(out, word, b" refused");
-    put_last(out, last, number)
+    // A number in decimal, at most 5 digits, which stand in a buffer of `io::decimal`'s size before they are put: there is no heap.
+    fn put_number(&mut self, n: u16)
+        requires { Fits self.old 5 }
+        ensures text { Adds self.old (decimal n) self.new }
+        ensures short { self.new.at ≤ self.old.at + 5 }
+    {
+        let mut digits = [0; 20];
+        let count = io::decimal(n as u64, &mut digits);
+        self.put(&digits[..count]);
+    }
+
+    // The number that a line ends with.
+    #[tactic(auto, using(crate::proofs::Laws::adds_then))]
+    fn put_last(&mut self, n: u8)
+        requires { Fits self.old 7 }
+        ensures { Adds self.old (last_word n) self.new }
+    {
+        self.put(b" ");
+        self.put_number(n as u16);
+        self.put(b"\n");
+    }
+
+    // The line of an accepted start or entry.
+    #[tactic(auto, using(crate::proofs::Laws::adds_then), unfolding(crate::specs::Text::line_text))]
+    pub fn put_line(&mut self, ordinal: u16, verdict: Verdict, settled: bool, count: u8)
+        requires { Fits self.old 27 }
+        ensures { Adds self.old (line_text ordinal (verdict_case verdict) settled count) self.new }
+    {
+        self.put_number(ordinal);
+        self.put(verdict_bytes(verdict));
+        self.put(settled_bytes(settled));
+        self.put_last(count);
+    }
+
+    // The line of a refused start or entry. Any number is told, also one that no refusal has.
+    #[tactic(auto, using(crate::proofs::Laws::adds_then), unfolding(crate::specs::Text::refusal_text))]
+    pub fn put_refusal(&mut self, ordinal: u16, number: u8)
+        requires { Fits self.old 27 }
+        ensures { Adds self.old (refusal_text ordinal number) self.new }
+    {
+        self.put_number(ordinal);
+        self.put(b" refused");
+        self.put_last(number);
+    }
 }

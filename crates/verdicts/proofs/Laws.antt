@@ -1,23 +1,30 @@
--- What a proper record says of all its ages is what its places say and the pair above H: the verdict (`verdict_held`), and
--- whether it is settled (`settled_in_lem`). Two answers that mean the same verdict are the same (`verdict_case-one`). Assumes
--- nothing.
-use Prim.Native.Nat.{ℕ, suc, ◌≤◌, ◌<◌}
+-- What a proper record says of all its ages is what its places say and the pair above H: the verdict (`verdict_held`; by what the
+-- code asks of it, `verdicts`), and whether it is settled (`settled_in_lem`; as a walk over the stretches asks it,
+-- `settled_places`). Two answers that mean the same verdict are the same (`verdict_case-one`). Assumes nothing.
+use Prim.Native.Nat.{ℕ, zero, suc, ◌≤◌, ◌<◌, min}
 use mathlib.Core.Path.{◌≡◌, refl, sym, ap, ap₂, ◌∙◌}
 use mathlib.Core.Logic.Iff
-use mathlib.Core.Logic.{◌↔◌, ◌⊎◌, inl, inr}
-use mathlib.Core.Bool.{Bool, true, false, not}
+use mathlib.Core.Logic.{◌↔◌, ◌⊎◌, inl, inr, ◌≢◌}
+use mathlib.Core.List.{List}
+use mathlib.Core.Bool.{Bool, true, false, ◌&&◌, not}
 use native.Mathlib.Decide.{dec_le}
 use native.Mathlib.Omega.{arith}
 use lib.Dec.{T as Is, eqb}
-use Rattle.base.specs.Masks.{union}
+use lib.ListN.{length, get_or, take, length-take}
+use native.Mathlib.Numerals.{add-one}
+use Rattle.std.specs.List.{list_all}
+use Rattle.std.proofs.lemmas.List.Folds.{list_all_more}
+use Rattle.base.specs.Masks.{all, union}
 use Rattle.base.proofs.Tests.{bool_ext, and_iff, all-iff}
 use Rattle.meaning.specs.Tables.{Table, horizon, accepting_at}
 use Rattle.meaning.specs.Ages.{ages, accepts_at}
 use Rattle.record.specs.declared.Pair.{Pair}
+use Rattle.record.specs.declared.Stretch.{Stretch}
 use Rattle.record.specs.declared.Record.{Record}
 use Rattle.record.specs.Pairs.{Pairs, no_pair, both, together}
-use Rattle.record.specs.Records.{place, pairs_at, Proper}
-use Rattle.record.specs.Verdicts.{decide, verdict_at, settled_at}
+use Rattle.record.specs.Records.{blank, place, pairs_at, Proper}
+use borrow.Author.Tests.{eq-eqb, ne_eqb}
+use Rattle.record.specs.Verdicts.{says_yes, says_no, unsure, decide, verdict_at, settled_at}
 use Rattle.record.proofs.Records.{pairs_at-above}
 use Rattle.record.proofs.Together.{side, side-together, together-cong, over_last}
 use Rattle.record.proofs.Places.{pairs-in, held_or_none, together-held}
@@ -35,6 +42,24 @@ verdict_case-one No Unsure e = cc
 verdict_case-one Unsure Yes e = cc
 verdict_case-one Unsure No e = cc
 verdict_case-one Unsure Unsure e = refl
+
+-- what a walk over the stretches asks of each, asked of the places in use
+listed : {X : Type 0} (p : X → Bool) (l : List X) (d : X) (n : ℕ) → n ≤ length l
+    → list_all p (take n l) ≡ all n (λ i. p (get_or l i d))
+unfolding all
+listed p l d zero h = refl
+listed p l d (suc n) h =
+    ap (λ (k : ℕ). list_all p (take k l)) (sym (add-one n))
+    ∙ list_all_more p l n d (omega arith)
+    ∙ ap (λ (b : Bool). b && p (get_or l n d)) (listed p l d n (omega arith))
+
+pub settled_places : (r : Record) (items : List Stretch) → r.count ≤ 64 → items ≡ take (min r.count 64) r.places
+    → length items ≡ min r.count 64
+    → list_all (λ x. equal_sets x.pair) items ≡ all r.count (λ i. equal_sets (place r i).pair)
+settled_places r items few e n =
+    let used : min r.count 64 ≡ r.count = omega arith in
+    let there : length (take (min r.count 64) r.places) ≡ min r.count 64 = rw (← e) n in
+    rw (e, used) (listed (λ x. equal_sets x.pair) r.places blank r.count (omega (arith, length-take (min r.count 64) r.places)))
 
 module _ (T : Table) (n : ℕ) (r : Record) (ok : Proper (horizon T) n r) where
   abbrev H : ℕ
@@ -62,6 +87,18 @@ module _ (T : Table) (n : ℕ) (r : Record) (ok : Proper (horizon T) n r) where
       → verdict_at T f ≡ decide (not (eqb a.sure 0)) (not (eqb a.possible 0))
   unfolding verdict_at accepts_at accepting_at
   verdict_held a e = rw e (ap₂ (λ (s p : ℕ). decide (not (eqb s 0)) (not (eqb p 0))) (accepted-side true) (accepted-side false))
+
+  -- the same as the code asks
+  pub said-yes : (a : Pair) → a ≡ accepted_in T.accepting r → a.sure ≢ 0 → says_yes ≡ verdict_at T (pairs_at (horizon T) r)
+  said-yes a e y = rw (verdict_held a e, ne_eqb a.sure 0 y) refl
+
+  pub said-no : (a : Pair) → a ≡ accepted_in T.accepting r → a.sure ≡ 0 → a.possible ≡ 0
+      → says_no ≡ verdict_at T (pairs_at (horizon T) r)
+  said-no a e y p = rw (verdict_held a e, eq-eqb a.sure 0 y, eq-eqb a.possible 0 p) refl
+
+  pub said-unsure : (a : Pair) → a ≡ accepted_in T.accepting r → a.sure ≡ 0 → a.possible ≢ 0
+      → unsure ≡ verdict_at T (pairs_at (horizon T) r)
+  said-unsure a e y p = rw (verdict_held a e, eq-eqb a.sure 0 y, ne_eqb a.possible 0 p) refl
 
   -- ---- settled
 
@@ -97,3 +134,6 @@ module _ (T : Table) (n : ℕ) (r : Record) (ok : Proper (horizon T) n r) where
         where
           each : (k : ℕ) → k < ages H → Is (equal_sets (f k))
           each = (all-iff (ages H) (λ k. equal_sets (f k))).0 h
+
+-- for a code that asks the sure set first, then the possible one
+pub ruleset verdicts = (said-yes, said-no, said-unsure)

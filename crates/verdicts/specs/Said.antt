@@ -1,5 +1,5 @@
--- What the places of a record say of the verdict and of settled, and which verdict of document 01 each answer is. Assumes
--- nothing: these are definitions.
+-- What the places of a record say of the verdict and of settled, and which verdict of document 01 each answer is, and which
+-- number. Assumes nothing: these are definitions.
 use Rattle.std.specs.Prelude.{ℕ, Bool, ◌&&◌, eqb}
 use Rattle.std.specs.Int.Bits.{bit_and}
 use Rattle.base.specs.Masks.{all}
@@ -16,6 +16,12 @@ abbrev pub verdict_case : Case → Verdict
 verdict_case Yes = says_yes
 verdict_case No = says_no
 verdict_case Unsure = unsure
+
+-- the verdict as a number, "1 yes, 2 no, 3 unsure" as document 02's sixth request writes it; 0 is none of them
+abbrev pub verdict_number : Verdict → ℕ
+verdict_number says_yes = 1
+verdict_number says_no = 2
+verdict_number unsure = 3
 
 -- the accepting states of a pair
 abbrev pub accepted_of : ℕ → Pair → Pair

@@ -5,16 +5,24 @@ ghost use Rattle.std.specs.Prelude.{ℕ, ◌≤◌, ◌≡◌};
 ghost use Rattle.meaning.specs.Tables.{table_of, horizon};
 ghost use Rattle.record.specs.Records.{pairs_at, Proper};
 ghost use Rattle.record.specs.Verdicts.{verdict_at};
-ghost use Rattle.verdicts.specs.Said.{verdict_case, accepted_of, accepted_in, settled_in};
+ghost use Rattle.verdicts.specs.Said.{verdict_case, verdict_number, accepted_of, accepted_in, settled_in};
 
 use record::{Pair, Record};
 
 // `Unsure` means that neither yes nor no would be right for every set that may have stood at the gap's end.
-#[derive(Clone, Copy)]
+#[derive(Clone, Copy, PartialEq, Eq)]
 pub enum Verdict {
-    Yes,
+    Yes = 1,
     No,
     Unsure,
+}
+
+impl From<Verdict> for u8 {
+    ghost from_gives = { λ verdict n. n ≡ verdict_number (verdict_case verdict) };
+
+    fn from(verdict: Verdict) -> u8 {
+        verdict as u8
+    }
 }
 
 // The accepting states of a pair.
@@ -28,34 +36,25 @@ fn accepted_of(accepting: u16, p: Pair) -> Pair
 }
 
 // The accepting states that the record holds, at any age.
-fn accepted_in(accepting: u16, r: Record) -> Pair
-    requires { r.count ≤ 64 }
-    ensures { result ≡ accepted_in accepting r }
+fn accepted_in(accepting: u16, r: &Record) -> Pair
+    requires { r.now.count ≤ 64 }
+    ensures { result ≡ accepted_in accepting r.now }
 {
-    let count = r.count;
-    let mut out = record::no_pair();
-    let places = r.places;
-    let mut i = 0;
-    while i < count {
-        let at = i as usize;
-        let x = places[at];
-        let pair = x.pair;
-        let more = accepted_of(accepting, pair);
-        out = record::both(out, more);
-        i += 1;
+    let mut out = Pair::default();
+    for x in r.stretches() {
+        out = out.both(accepted_of(accepting, x.pair));
     }
-    let above = r.above;
-    let more = accepted_of(accepting, above);
-    record::both(out, more)
+    out.both(accepted_of(accepting, r.above))
 }
 
-// Yes if the sure set accepts, no if the possible set does not.
-pub fn verdict_of(t: &[u8], r: Record) -> Verdict
-    requires { (n : ℕ) × Proper (horizon (table_of t.now)) n r }
-    ensures { verdict_case result ≡ verdict_at (table_of t.now) (pairs_at (horizon (table_of t.now)) r) }
+// Yes if the sure set accepts, no if the possible set does not. The record may be proper for any number of states, and the table any
+// bytes: to take a `Known` would ask more.
+#[tactic(auto, using(crate::proofs::Laws::verdicts), unfolding(meaning::specs::Tables::table_of))]
+pub fn verdict_of(t: &[u8], r: &Record) -> Verdict
+    requires { (n : ℕ) × Proper (horizon (table_of t.now)) n r.now }
+    ensures { verdict_case result ≡ verdict_at (table_of t.now) (pairs_at (horizon (table_of t.now)) r.now) }
 {
-    let head = table::head_of(t);
-    let accepted = accepted_in(head.accepting, r);
+    let accepted = accepted_in(table::head_of(t).accepting, r);
     if accepted.sure != 0 {
         return Verdict::Yes;
     }
@@ -66,25 +65,9 @@ pub fn verdict_of(t: &[u8], r: Record) -> Verdict
 }
 
 // Whether the sure and the possible set are the same, at every age.
-pub fn is_settled(r: Record) -> bool
-    requires { r.count ≤ 64 }
-    ensures { result ≡ settled_in r }
+pub fn is_settled(r: &Record) -> bool
+    requires { r.now.count ≤ 64 }
+    ensures { result ≡ settled_in r.now }
 {
-    let above = r.above;
-    if above.sure != above.possible {
-        return false;
-    }
-    let count = r.count;
-    let places = r.places;
-    let mut i = 0;
-    while i < count {
-        let at = i as usize;
-        let x = places[at];
-        let pair = x.pair;
-        if pair.sure != pair.possible {
-            return false;
-        }
-        i += 1;
-    }
-    true
+    r.above.sure == r.above.possible && r.stretches().iter().all(|x| x.pair.sure == x.pair.possible)
 }

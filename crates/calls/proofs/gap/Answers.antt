@@ -1,24 +1,18 @@
 -- `calls::gap` is its checks and its step. Assumes nothing.
-use mathlib.Core.Path.{sym, ◌∙◌}
-use Rattle.calls.proofs.Steps.{gap_call, call-refused, call-passed, known}
+use mathlib.Core.Path.{refl, sym, ◌∙◌}
+use Rattle.std.proofs.lemmas.Result.{err_from_is_err_and}
+use Rattle.faults.proofs.Numbered.{number-some}
+use Rattle.calls.proofs.Steps.{gap_call, call-refused, call-passed}
 use Rattle.calls.proofs.gap.Goals as goal
 
-pub returns-then-number-ne0 : goal.returns-then-number-ne0
-returns-then-number-ne0 c =
-    let a = c.args in
-    let fault = c.record_fault-number in
-    c.refused.ensures
-    ∙ call-refused fault.result _ a.r _ fault.ensures c.if-number-ne0.true
-    ∙ sym (gap_call a.t.now a.r)
-
-pub gap_step-requires : goal.gap_step-requires
-gap_step-requires c =
-    known _ _ _ c.record_fault-number.result c.record_fault-number.ensures c.if-number-ne0.false
-    c.horizon_of-horizon.ensures
+pub returns-in_err-check_record : goal.returns-in_err-check_record
+returns-in_err-check_record c =
+    let p = err_from_is_err_and c.from_residual.result c.from_residual.ensures.1 in
+    let failed = c.in_err-check_record.ensures.number in
+    rw (p.1, p.2) (call-refused _ _ c.args.r _ failed (number-some _) ∙ sym (gap_call c.args.t.now c.args.r))
 
 pub returns : goal.returns
 returns c =
-    let a = c.args in
-    let fault = c.record_fault-number in
-    call-passed fault.result _ a.r _ _ fault.ensures c.if-number-ne0.false c.gap_step.ensures
-    ∙ sym (gap_call a.t.now a.r)
+    let passed = c.in_ok-check_record.ensures in
+    let step = rw (passed.table, passed.held) at c.gap_step.ensures in
+    call-passed _ _ c.args.r _ _ passed.number refl step ∙ sym (gap_call c.args.t.now c.args.r)

@@ -1,25 +1,28 @@
--- `calls::settled` is its checks and what `is_settled` says. Assumes nothing.
-use mathlib.Core.Path.{◌∙◌}
+-- `calls::settled` is its checks and what was asked. Assumes nothing.
+use mathlib.Core.Path.{refl, ◌∙◌}
 use native.Mathlib.Omega.{arith}
+use Rattle.std.proofs.lemmas.Result.{err_from_is_err_and}
+use Rattle.faults.proofs.Numbered.{number-some}
 use Rattle.verdicts.proofs.Laws.{settled_in_lem}
 use Rattle.calls.specs.Calls.{settled_of}
 use Rattle.calls.proofs.Steps.{ask_refused, ask_passed, proper-known}
 use Rattle.calls.proofs.settled.Goals as goal
 
-pub returns-then-number-ne0 : goal.returns-then-number-ne0
+pub returns-in_err-check_record : goal.returns-in_err-check_record
 unfolding settled_of
-returns-then-number-ne0 c =
-    let fault = c.record_fault-number in
-    ask_refused fault.result _ _ fault.ensures c.if-number-ne0.true
+returns-in_err-check_record c =
+    let p = err_from_is_err_and c.from_residual.result c.from_residual.ensures.1 in
+    rw (p.1, p.2) (ask_refused _ _ _ c.in_err-check_record.ensures.number (number-some _))
 
-pub is_settled-same-requires : goal.is_settled-same-requires
-is_settled-same-requires c =
-    let p = proper-known _ _ c.record_fault-number.result c.record_fault-number.ensures c.if-number-ne0.false in
-    omega (arith, p.fits, p.room_high)
+pub is_settled-requires : goal.is_settled-requires
+is_settled-requires c =
+    let passed = c.in_ok-check_record.ensures in
+    let p = proper-known _ _ 0 passed.number refl in
+    rw passed.held (omega (arith, p.fits, p.room_high))
 
 pub returns : goal.returns
 unfolding settled_of
 returns c =
-    let fault = c.record_fault-number in
-    ask_passed fault.result _ _ fault.ensures c.if-number-ne0.false _
-    (c.is_settled-same.ensures ∙ settled_in_lem _ _ _ (proper-known _ _ fault.result fault.ensures c.if-number-ne0.false))
+    let passed = c.in_ok-check_record.ensures in
+    let told = rw passed.held at c.is_settled.ensures in
+    ask_passed 0 _ _ passed.number refl _ (told ∙ settled_in_lem _ _ _ (proper-known _ _ 0 passed.number refl))

@@ -1,26 +1,22 @@
 -- `calls::span_step` meets its contract: 10, or the record after the span; no sum wraps, as H is at most a year. Assumes nothing.
-use mathlib.Core.Path.{◌∙◌}
 use native.Mathlib.Omega.{arith}
-use Rattle.std.proofs.Common.{rules}
-use Rattle.image.proofs.Laws.{known-horizon}
-use Rattle.calls.proofs.Steps.{span_none, span_long, span_passes}
+use Rattle.known.proofs.Laws.{known_of, known-horizon}
+use Rattle.calls.proofs.Steps.{span_bad, span_good, span_passes}
 use Rattle.calls.proofs.span_step.Goals as goal
 
-pub returns-then-seconds-lt1 : goal.returns-then-seconds-lt1
-returns-then-seconds-lt1 c =
-    let a = c.args in
-    c.refused.ensures ∙ span_none a.t.now a.r a.seconds (search rules)
+pub returns-then-not-is_span : goal.returns-then-not-is_span
+returns-then-not-is_span c = span_bad _ _ c.args.seconds c.if-not-is_span.ensures
 
-pub returns-then-seconds-gt2147483647 : goal.returns-then-seconds-gt2147483647
-returns-then-seconds-gt2147483647 c =
-    let a = c.args in
-    c.refused-then-seconds-gt2147483647.ensures ∙ span_long a.t.now a.r a.seconds (search rules)
+pub after_span-requires-clause-proper : goal.after_span-requires-clause-proper
+after_span-requires-clause-proper c = (_, (known_of c.args.known.now).proper)
 
-pub after_span-next-requires-clause-ages_fit : goal.after_span-next-requires-clause-ages_fit
-after_span-next-requires-clause-ages_fit c = omega (arith, known-horizon _ _ _ c.requires)
+pub after_span-requires-clause-ages_fit : goal.after_span-requires-clause-ages_fit
+after_span-requires-clause-ages_fit c =
+    let k = c.args.known.now in
+    omega (arith, known-horizon _ _ _ (known_of k), span_good k.table.bytes.now k.held c.args.seconds c.if-not-is_span.ensures)
 
 pub returns : goal.returns
 returns c =
-    let a = c.args in
-    c.accepted.ensures ∙ span_passes a.t.now a.r a.seconds a.horizon c.requires _
-    c.after_span-next.ensures (search rules) (search rules)
+    let k = c.args.known.now in
+    let good = span_good k.table.bytes.now k.held c.args.seconds c.if-not-is_span.ensures in
+    span_passes _ k.held c.args.seconds k.horizon (known_of k) _ c.after_span.ensures good.0 good.1

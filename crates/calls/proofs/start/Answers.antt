@@ -1,27 +1,21 @@
 -- `calls::start` is its checks and its step. Assumes nothing.
-use mathlib.Core.Path.{sym, ◌∙◌}
+use mathlib.Core.Path.{sym, refl}
+use Rattle.std.proofs.lemmas.Result.{err_from_is_err_and}
+use Rattle.faults.proofs.Numbered.{number-some}
 use Rattle.calls.proofs.Laws.{start_fault-iff}
 use Rattle.calls.proofs.Steps.{begin_refused, begin_passed}
 use Rattle.calls.proofs.start.Goals as goal
 
-pub returns-then-number-ne0 : goal.returns-then-number-ne0
-returns-then-number-ne0 c =
-    let a = c.args in
-    let fault = c.start_fault-number in
-    c.refused.ensures ∙ begin_refused a.t.now a.room fault.result c.blank_record-blank.result
-    fault.ensures c.if-number-ne0.true c.blank_record-blank.ensures
+pub returns-in_err-check_start : goal.returns-in_err-check_start
+returns-in_err-check_start c =
+    let p = err_from_is_err_and c.from_residual.result c.from_residual.ensures.1 in
+    rw (p.1, p.2) (begin_refused c.args.t.now c.args.room _ _ c.in_err-check_start.ensures (number-some _) refl)
 
-pub at_start-next-requires-clause-room_low : goal.at_start-next-requires-clause-room_low
-at_start-next-requires-clause-room_low c =
-    ((start_fault-iff _ _).0 (sym c.start_fault-number.ensures ∙ c.if-number-ne0.false)).1.0
+pub at_start-requires-clause-room_low : goal.at_start-requires-clause-room_low
+at_start-requires-clause-room_low c = ((start_fault-iff _ _).0 (sym c.in_ok-check_start.ensures)).1.0
 
-pub at_start-next-requires-clause-room_high : goal.at_start-next-requires-clause-room_high
-at_start-next-requires-clause-room_high c =
-    ((start_fault-iff _ _).0 (sym c.start_fault-number.ensures ∙ c.if-number-ne0.false)).1.1
+pub at_start-requires-clause-room_high : goal.at_start-requires-clause-room_high
+at_start-requires-clause-room_high c = ((start_fault-iff _ _).0 (sym c.in_ok-check_start.ensures)).1.1
 
 pub returns : goal.returns
-returns c =
-    let a = c.args in
-    let fault = c.start_fault-number in
-    c.accepted.ensures ∙ begin_passed a.t.now a.room fault.result c.at_start-next.result
-    fault.ensures c.if-number-ne0.false c.at_start-next.ensures
+returns c = begin_passed c.args.t.now c.args.room 0 c.at_start.result c.in_ok-check_start.ensures refl c.at_start.ensures

@@ -1,20 +1,24 @@
--- `calls::verdict` is its checks and what `verdict_of` says. Assumes nothing.
+-- `calls::verdict` is its checks and what was asked. Assumes nothing.
+use mathlib.Core.Path.{refl}
+use Rattle.std.proofs.lemmas.Result.{err_from_is_err_and}
+use Rattle.faults.proofs.Numbered.{number-some}
 use Rattle.calls.specs.Calls.{verdict_of}
 use Rattle.calls.proofs.Steps.{ask_refused, ask_passed, proper-known}
 use Rattle.calls.proofs.verdict.Goals as goal
 
-pub returns-then-number-ne0 : goal.returns-then-number-ne0
+pub returns-in_err-check_record : goal.returns-in_err-check_record
 unfolding verdict_of
-returns-then-number-ne0 c =
-    let fault = c.record_fault-number in
-    ask_refused fault.result _ _ fault.ensures c.if-number-ne0.true
+returns-in_err-check_record c =
+    let p = err_from_is_err_and c.from_residual.result c.from_residual.ensures.1 in
+    rw (p.1, p.2) (ask_refused _ _ _ c.in_err-check_record.ensures.number (number-some _))
 
-pub verdict_of-said-requires : goal.verdict_of-said-requires
-verdict_of-said-requires c =
-    (_, proper-known _ _ c.record_fault-number.result c.record_fault-number.ensures c.if-number-ne0.false)
+pub verdict_of-requires : goal.verdict_of-requires
+verdict_of-requires c =
+    let passed = c.in_ok-check_record.ensures in
+    rw passed.held (_, proper-known _ _ 0 passed.number refl)
 
 pub returns : goal.returns
 unfolding verdict_of
 returns c =
-    let fault = c.record_fault-number in
-    ask_passed fault.result _ _ fault.ensures c.if-number-ne0.false _ c.verdict_of-said.ensures
+    let passed = c.in_ok-check_record.ensures in
+    ask_passed 0 _ _ passed.number refl _ (rw passed.held at c.verdict_of.ensures)

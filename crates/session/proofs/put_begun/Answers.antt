@@ -1,29 +1,21 @@
 -- `session::put_begun`: a refused start by its number; else its line and those of the entries. Assumes nothing.
-use Rattle.std.proofs.Common.{rules}
-use Rattle.session.proofs.Laws.{start_known}
+use Rattle.faults.proofs.Numbered.{number-some}
+use Rattle.text.proofs.Laws.{adds_then}
 use Rattle.session.proofs.Whole.{begun_refused, begun_accepted, begun_ready}
 use Rattle.session.proofs.put_begun.Goals as goal
 
-pub returns-then-answer-ne0 : goal.returns-then-answer-ne0
-returns-then-answer-ne0 c =
-    let a = c.args in
-    begun_refused a.t.now a.s.now a.room a.from c.start-answer.result c.start-answer.ensures a.out.now _ _
-    (search rules) c.put_refusal.ensures
-
-pub put_answer-end-requires-clause-known : goal.put_answer-end-requires-clause-known
-put_answer-end-requires-clause-known c =
-    start_known c.args.t.now c.args.room _ c.start-answer.result c.start-answer.ensures (search rules)
-    c.horizon_of-horizon.ensures
-
 pub put_entries-requires : goal.put_entries-requires
 put_entries-requires c =
-    let a = c.args in
-    begun_ready a.t.now a.s.now _ a.from _ c.start-answer.result a.out.now _ _ c.requires
-    (start_known a.t.now a.room _ c.start-answer.result c.start-answer.ensures (search rules) c.horizon_of-horizon.ensures)
-    c.put_answer-end.ensures c.put_answer-end.auto.out
+    let k = c.in-Ok.known in
+    begun_ready k.table.bytes.now c.args.s.now c.args.from k.held _ _ c.requires.begins c.requires.empty c.put_held.ensures
 
-pub returns : goal.returns
-returns c =
-    let a = c.args in
-    begun_accepted a.t.now a.s.now a.room a.from c.start-answer.result c.start-answer.ensures a.out.now _ _
-    c.if-answer-ne0.false _ _ c.put_answer-end.ensures c.put_entries.ensures
+pub returns-in-Ok : goal.returns-in-Ok
+returns-in-Ok c =
+    let same = c.in-Ok.ensures.table in
+    let lines = adds_then (rw same at c.put_held.ensures) (rw same at c.put_entries.ensures) in
+    rw (begun_accepted c.args.t.now c.args.s.now c.args.room c.args.from c.in-Ok.known.held c.in-Ok.ensures.answer) at lines
+
+pub returns-in-Err : goal.returns-in-Err
+returns-in-Err c =
+    let text = begun_refused c.args.t.now c.args.s.now c.args.room c.args.from _ c.in-Err.ensures.answer (number-some c.in-Err.fault) in
+    rw (c.into.ensures, text) at c.put_refusal.ensures

@@ -7,8 +7,12 @@ use Rattle.session.specs.Sessions.{entries_from}
 use Rattle.session.proofs.Turn.{Going}
 use Rattle.session.proofs.put_entries.Given as goal
 
-abbrev pub invariant-loop-place : goal.invariant-loop-place
-invariant-loop-place l = (length l.out ≡ length l.initial.out) × Going l.t l.s l.horizon l.initial.out (entries_from l.t l.s l.from l.initial.r) l.at l.r l.place l.ordinal l.end l.out
+abbrev pub invariant-loop-reader : goal.invariant-loop-reader
+invariant-loop-reader l =
+    (l.reader.src ≡ l.initial.reader.src) × (l.known.table.bytes.now ≡ l.initial.known.table.bytes.now)
+    × Going l.initial.known.table.bytes.now l.s l.initial.lines
+    (entries_from l.initial.known.table.bytes.now l.s l.from l.initial.known.held)
+    l.known.held l.reader.at l.ordinal l.lines
 
-abbrev pub decreases-loop-place : goal.decreases-loop-place
-decreases-loop-place l = length l.s - l.place
+abbrev pub decreases-loop-reader : goal.decreases-loop-reader
+decreases-loop-reader l = length l.s - l.reader.at

@@ -1,15 +1,9 @@
--- `spans::passed` meets its contract: before place i, `out` is what the span takes above H of the places below i; the places
--- left fall. Assumes nothing.
-use Prim.Native.Nat.{◌-◌, ◌≤◌}
-use mathlib.Core.Path.{◌≡◌}
-use lib.ListN.{get_or}
+-- Before a stretch, `out` is what the span takes above H of the stretches before it.
+use Rattle.std.proofs.Common.{◌≡◌}
 use Rattle.record.specs.Pairs.{together}
-use Rattle.record.specs.Records.{blank}
+use Rattle.record.specs.Records.{place}
 use Rattle.spans.specs.Spans.{passed_in}
 use Rattle.spans.proofs.passed.Given as goal
 
-abbrev pub invariant-loop-i : goal.invariant-loop-i
-invariant-loop-i l = (l.i ≤ l.count) × (l.out ≡ together l.i (λ i. passed_in l.horizon l.seconds (get_or l.places i blank)))
-
-abbrev pub decreases-loop-i : goal.decreases-loop-i
-decreases-loop-i l = l.count - l.i
+abbrev pub invariant-loop-x : goal.invariant-loop-x
+invariant-loop-x l = l.out ≡ together l.x-index (λ i. passed_in l.horizon l.seconds (place l.r i))

@@ -1,31 +1,21 @@
-use Rattle.std.proofs.Common.{◌≡◌, refl, arith, rules}
-use Rattle.base.specs.Masks.{all}
-use Rattle.base.proofs.Tests.{all-next, all-not}
+use Rattle.std.proofs.Common.{◌∙◌, rules}
+use Rattle.std.proofs.lemmas.Iterator.{YieldsList-from_slice}
+use Rattle.std.proofs.lemmas.Iterator.Search.{all_from_yields_List}
 use Rattle.base.proofs.Rules.{also, tests}
 use Rattle.verdicts.specs.Said.{equal_sets, settled_in}
+use Rattle.verdicts.proofs.Laws.{settled_places}
 use Rattle.verdicts.proofs.is_settled.Goals as goal
 
-pub returns-then-above : goal.returns-then-above
+pub returns-then-r : goal.returns-then-r
 unfolding settled_in
-returns-then-above c = search tests
-
-pub loop-i-init : goal.loop-i-init
-unfolding all
-loop-i-init c = (search rules, refl)
-
-pub returns-then-pair : goal.returns-then-pair
-unfolding settled_in
-returns-then-pair c =
-    let r = c.args.r in
+returns-then-r c =
+    let r = c.args.r.now in
+    let items = c.stretches.result.now in
+    let each = YieldsList-from_slice items cc in
+    let asked = all_from_yields_List (λ x. equal_sets x.pair) _ _ _ c.all.ensures.ran each (λ x b q k. search rules) in
     also (equal_sets r.above) _ _ (search tests)
-    (all-not c.loop-i.i r.count _ (search rules) (search tests))
+    (asked ∙ settled_places r items c.requires c.stretches.ensures.places c.stretches.ensures.count)
 
-pub loop-i-preserved : goal.loop-i-preserved
-loop-i-preserved c = (search rules, all-next c.loop-i.i _ c.loop-i.invariant.1 (search tests))
-
-pub returns : goal.returns
+pub returns-else-r : goal.returns-else-r
 unfolding settled_in
-returns c =
-    let r = c.args.r in
-    let whole : c.loop-i.i ≡ r.count = omega arith in
-    also (equal_sets r.above) _ _ (search tests) (rw (← whole) c.loop-i.invariant.1)
+returns-else-r c = search tests
