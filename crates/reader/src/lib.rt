@@ -7,7 +7,7 @@ ghost use Rattle.entries.specs.Entries.{read_at};
 
 use entries::Entry;
 
-// Document 01 has it as a struct of slice and place.
+// A slice and a place in it, as document 01 has it; the clauses below speak of the two.
 #[derive(Clone, Copy)]
 pub struct Reader<'a> {
     pub src: &'a [u8],

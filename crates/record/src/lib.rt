@@ -196,7 +196,8 @@ impl Record {
     }
 
     // The ages from first to last, all with the pair, behind the stretches of the ages below: they go on with the last stretch
-    // or begin one, or none where nothing is possible.
+    // or begin one, or none where nothing is possible. They are handed on one by one, as in the definition: most callers have no
+    // stretch of them.
     #[tactic(auto, using(base::proofs::Rules::tests), unfolding(crate::specs::Building::pushed, crate::specs::Building::joined))]
     pub fn push(&mut self, first: u32, last: u32, pair: Pair)
         ensures { self.new ≡ pushed self.old first last pair }

@@ -59,7 +59,7 @@ fn begin(t: &[u8], room: u8) -> Result<Known<'_>, Fault>
     })
 }
 
-// What the entry's call answers. Document 01 has a symbol matched by its case.
+// What the entry's call answers. A symbol is matched by its case: a closure for each kind would be no plainer.
 fn answer_to(known: &Known<'_>, symbol: Symbol) -> Result<Record, Fault>
     ensures { answered known.now.held result ≡ call_of known.now.table.bytes.now known.now.held symbol }
 {
@@ -100,7 +100,7 @@ fn put_entry(known: &mut Known<'_>, entry: Entry, lines: &mut Lines<'_>)
     }
 }
 
-// The lines of the entries from the place `from` on.
+// The lines of the entries from the place `from` on, where the table ended; the reader begins there.
 fn put_entries(s: &[u8], mut known: Known<'_>, from: usize, lines: &mut Lines<'_>)
     requires { Ready s.now from lines.old.at (length lines.old.out.now) }
     ensures { Adds lines.old (entries_from known.entry.table.bytes.now s.now from known.entry.held) lines.new }
