@@ -20,11 +20,12 @@ use Rattle.meaning.specs.Tables.{Table, table_of, horizon}
 use Rattle.meaning.specs.Runs.{letter, span}
 use Rattle.record.specs.declared.Record.{Record}
 use Rattle.record.specs.Pairs.{start_pairs, gap_pairs, step_pairs}
-use Rattle.record.specs.Records.{blank_record, pairs_at, record_of, Proper}
+use Rattle.record.specs.Records.{blank_record, pairs_at, record_of}
 use Rattle.record.specs.Verdicts.{verdict_at, settled_at}
 use Rattle.record.specs.Building.{built_of}
 use Rattle.record.proofs.Building.{built-fits, built-over}
 use Rattle.known.specs.Known.{Known}
+use Rattle.known.proofs.Laws.{proper-held}
 use Rattle.spans.specs.Spans.{span_pairs}
 use Rattle.spans.proofs.Laws.{span_stepped}
 use Rattle.calls.specs.declared.Answer.{Answer}
@@ -109,7 +110,7 @@ proper-known b r f e z = ((record_fault-iff b r).0 (sym e ∙ z)).1
 -- where they passed, a call is its step
 module _ (b : List ℕ) (H : ℕ) (r : Record) (k : Known b H r) where
   passed : record_fault b r ≡ 0
-  passed = (record_fault-iff b r).1 (k.sound, subst (λ (h : ℕ). Proper h (table_of b).states r) k.reach k.proper)
+  passed = (record_fault-iff b r).1 (k.sound, proper-held b H r k)
 
   pub letter_known : (a : ℕ) → letter_of b r a ≡ letter_step b r a
   letter_known a = letter_call b r a ∙ ap (λ (n : ℕ). checked n r (letter_step b r a)) passed

@@ -11,7 +11,10 @@ ghost use Rattle.faults.specs.Numbered.{number, number_of};
 
 use table::{Head, Line};
 
-// Why a call refuses or a session ends, each by its number in document 01.
+// Why a call refuses or a session ends, each by its number in document 01: a table that is too short, of another version, with
+// counts out of range, a length that is not its own, a mask with too many states, or a line whose parts or ages are out of range;
+// a record that is not proper, or a start's room that no record has; a letter or a span out of range; a letter for which there is no
+// room; an entry that cannot be read.
 #[derive(Clone, Copy, PartialEq, Eq)]
 pub enum Fault {
     Short = 1,

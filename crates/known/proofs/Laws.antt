@@ -1,5 +1,5 @@
 -- What the checks 1 to 8 tell: all of it, from what a `Known` of the code keeps (`known-by`, `known_of`) and back (`sound-kept`,
--- `proper-kept`); and of it `known-horizon`, `known-few`, `known-place`. Assumes nothing.
+-- `proper-kept`); and of it `known-horizon`, `proper-held`, `known-few`, `known-place`. Assumes nothing.
 use Prim.Native.Nat.{ℕ, ◌≤◌, ◌<◌}
 use mathlib.Core.Path.{◌≡◌, sym, subst}
 use mathlib.Core.List.{List}
@@ -14,10 +14,10 @@ use Rattle.faults.specs.Faults.{table_fault}
 use Rattle.faults.proofs.Laws.{sound-iff, sound-horizon}
 use Rattle.record.specs.declared.Stretch.{Stretch}
 use Rattle.record.specs.declared.Record.{Record}
-use Rattle.record.specs.Records.{place, properb}
+use Rattle.record.specs.Records.{place, Proper, properb}
 use Rattle.record.proofs.Properness.{proper-iff}
 use Rattle.known.specs.Known.{Known}
-use Rattle.known.specs.declared.Known.{Known as Value}
+use Rattle.known.specs.declared.Known.{Known as Watch}
 
 pub known-by : (b : List ℕ) (h : Head) (H : ℕ) (r : Record) → table_fault b ≡ 0 → h ≡ head_of b → H ≡ horizon (table_of b)
     → properb H h.states r ≡ true → Known b H r
@@ -30,7 +30,7 @@ known-by b h H r sound headed reach proper =
     }
 
 -- the code's own
-pub known_of : (k : Value) → Known k.table.bytes.now k.horizon k.held
+pub known_of : (k : Watch) → Known k.table.bytes.now k.horizon k.held
 known_of k = known-by _ _ _ _ k.table.sound k.table.headed k.reach k.proper
 
 -- and back: what is known is what such a watch keeps
@@ -44,6 +44,9 @@ proper-kept b h H r headed k = rw headed (is_true _ ((proper-iff H (head_of b).s
 module _ (b : List ℕ) (H : ℕ) (r : Record) (k : Known b H r) where
   pub known-horizon : H ≤ 31622400
   known-horizon = rw k.reach (sound-horizon b k.sound)
+
+  pub proper-held : Proper (horizon (table_of b)) (table_of b).states r
+  proper-held = subst (λ (h : ℕ). Proper h (table_of b).states r) k.reach k.proper
 
   pub known-few : r.count ≤ 64
   known-few = omega (arith, k.proper.fits, k.proper.room_high)

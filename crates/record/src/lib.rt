@@ -3,13 +3,13 @@
 // and hold anything. Sets of states have bit i for state i.
 #![tactic(auto)]
 
-ghost use Rattle.std.specs.Prelude.{◌-◌, ◌≤◌, ◌<◌, ◌≡◌, ℕ, length, min, take};
+ghost use Rattle.std.specs.Prelude.{◌<◌, ◌≡◌, length, min, take};
 ghost use Rattle.base.specs.Masks.{all};
 ghost use Rattle.record.specs.Pairs.{both};
 ghost use Rattle.record.specs.Stretches.{touches};
-ghost use Rattle.record.specs.Records.{place, inside, pair_in, pairs_at, pair_okb, stretch_okb, followsb};
+ghost use Rattle.record.specs.Records.{place, inside, pairs_at, pair_okb, stretch_okb, followsb};
 ghost use Rattle.record.specs.Records.{in_place_okb, place_okb, properb};
-ghost use Rattle.record.specs.Building.{empty_record, overfull, appended, joined, pushed};
+ghost use Rattle.record.specs.Building.{empty_record, appended, pushed};
 
 // The sure and the possible states at an age.
 #[repr(C)]

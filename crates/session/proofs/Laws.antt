@@ -24,6 +24,7 @@ use Rattle.record.specs.Records.{pairs_at, Proper}
 use Rattle.record.specs.Verdicts.{Verdict, verdict_at, settled_at}
 use Rattle.record.proofs.Records.{count_used}
 use Rattle.known.specs.Known.{Known}
+use Rattle.known.proofs.Laws.{proper-held}
 use Rattle.verdicts.specs.Said.{settled_in}
 use Rattle.verdicts.proofs.Laws.{settled_in_lem}
 use Rattle.calls.specs.declared.Answer.{Answer}
@@ -84,11 +85,7 @@ module _ (b : List ℕ) (H : ℕ) (r : Record) (k : Known b H r) where
       f = pairs_of b r
 
       proper : Proper (horizon T) T.states r
-      proper = subst (λ (h : ℕ). Proper h T.states r) k.reach k.proper
-
--- the checks 1 to 8 hold of the table and the record
-pub proper-held : (b : List ℕ) (H : ℕ) (r : Record) → Known b H r → Proper (horizon (table_of b)) (table_of b).states r
-proper-held b H r k = subst (λ (h : ℕ). Proper h (table_of b).states r) k.reach k.proper
+      proper = proper-held b H r k
 
 pub start_known : (b : List ℕ) (room H : ℕ) (a : Answer) → a ≡ start_of b room → a.number ≡ 0 → H ≡ horizon (table_of b)
     → Known b H a.next

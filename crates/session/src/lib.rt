@@ -2,7 +2,7 @@
 // from then on the watch is known, and the entries take the steps under the calls' checks.
 #![tactic(auto)]
 
-ghost use Rattle.std.specs.Prelude.{◌≤◌, ◌≡◌, true, length, take, IfOk};
+ghost use Rattle.std.specs.Prelude.{◌≤◌, ◌≡◌, length, take, IfOk};
 ghost use Rattle.io.specs.Counts.{IsPrefixLen};
 ghost use Rattle.calls.specs.Calls.{start_of, answered};
 ghost use Rattle.text.specs.Text.{Fits, Adds};

@@ -1,6 +1,6 @@
 -- `session::put_held`: a proper record says what the line tells. Assumes nothing.
-use Rattle.known.proofs.Laws.{known_of, known-few}
-use Rattle.session.proofs.Laws.{as_told, proper-held}
+use Rattle.known.proofs.Laws.{known_of, known-few, proper-held}
+use Rattle.session.proofs.Laws.{as_told}
 use Rattle.session.proofs.put_held.Goals as goal
 
 pub verdict_of-verdict-requires : goal.verdict_of-verdict-requires
