@@ -12,12 +12,16 @@ use native.Mathlib.Omega.{arith}
 use lib.Dec.{leb, eqb, ltb}
 use Rattle.base.proofs.Checks.{◌or◌, at_most, not_zero}
 use Rattle.base.proofs.Tests.{is_true}
+use Rattle.std.specs.Prelude.{Result, Ok, Err, IsErrAnd}
 use borrow.Author.Tests.{not-true, not-false, le-leb, lt-leb, le-ltb, lt-ltb, ne_eqb}
 use Rattle.base.specs.Checks.{◌then◌}
 use Rattle.table.specs.declared.Head.{Head}
 use Rattle.table.specs.Table.{head_of}
 use Rattle.meaning.specs.Tables.{Table, table_of, horizon}
 use Rattle.meaning.specs.Runs.{letter, span}
+use Rattle.faults.specs.declared.Fault.{Fault}
+use Rattle.faults.specs.Numbered.{number}
+use Rattle.faults.proofs.Numbered.{number-some}
 use Rattle.record.specs.declared.Record.{Record}
 use Rattle.record.specs.Pairs.{start_pairs, gap_pairs, step_pairs}
 use Rattle.record.specs.Records.{blank_record, pairs_at, record_of}
@@ -29,7 +33,7 @@ use Rattle.known.proofs.Laws.{proper-held}
 use Rattle.spans.specs.Spans.{span_pairs}
 use Rattle.spans.proofs.Laws.{span_stepped}
 use Rattle.calls.specs.declared.Answer.{Answer}
-use Rattle.calls.specs.Calls.{holding, needed, stepped, ProperFor, start_fault, record_fault, letter_fault, span_fault, answer, start_of, letter_of, span_of, gap_of, accepted, refusal, letter_step, span_step, gap_step, checked, refused, told, reply, pairs_of, verdict_of, settled_of, count_of}
+use Rattle.calls.specs.Calls.{holding, needed, stepped, ProperFor, start_fault, record_fault, letter_fault, span_fault, answer, start_of, letter_of, span_of, gap_of, accepted, refusal, letter_step, span_step, gap_step, checked, refused, told, reply, pairs_of, verdict_of, settled_of, count_of, replied, answered}
 use Rattle.calls.proofs.Laws.{record_fault-iff}
 
 -- ---- each call is its checks and its step
@@ -84,6 +88,19 @@ module _ {A : Type 0} (f m : ℕ) (v : A) (e : f ≡ m) where
       go : (m : ℕ) → f ≡ m → told x ≡ reply m v
       go zero e = ap told h
       go (suc m) e = absurd (let none : ⊥ = omega arith in none)
+
+-- a question's refusal, as `?` hands it on
+pub refused_by : {A B : Type 0} (g : A → B) (x : Result A Fault) (f : Fault) (m : ℕ) (v : B)
+    → IsErrAnd x (λ y. y ≡ f) → number f ≡ m → replied g x ≡ reply m v
+refused_by g (Ok a) f m v h e = absurd h
+refused_by g (Err y) f m v h e = ask_refused (number y) m v (ap number h ∙ e) (number-some y)
+
+-- and a call's
+pub answered_by : (x : Result Record Fault) (f : Fault) (m : ℕ) (old new : Record) → IsErrAnd x (λ y. y ≡ f) → number f ≡ m
+    → answered old x ≡ answer m old new
+answered_by (Ok a) f m old new h e = absurd h
+answered_by (Err y) f zero old new h e = absurd (number-some y (ap number h ∙ e))
+answered_by (Err y) f (suc m) old new h e = ap (λ n. refusal n old) (ap number h ∙ e)
 
 -- a start, which has no record to hand back
 module _ (b : List ℕ) (room f : ℕ) (next : Record) (e : f ≡ start_fault b room) where

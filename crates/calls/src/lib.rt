@@ -3,14 +3,15 @@
 // a caller that knows its table and its record to pass 1 to 8; a start's is that of `spans`, a question's those of `verdicts`.
 #![tactic(auto)]
 
-ghost use Rattle.std.specs.Prelude.{◌≡◌, ◌&&◌, ◌||◌, not, eqb, leb, ltb, IfOk};
+ghost use Rattle.std.specs.Prelude.{◌≡◌, ◌&&◌, ◌||◌, not, true, eqb, leb, ltb, IfOk};
+ghost use Rattle.meaning.specs.Tables.{table_of, horizon as horizon_of};
 ghost use Rattle.faults.specs.Numbered.{number_of};
-ghost use Rattle.record.specs.Records.{blank_record};
+ghost use Rattle.record.specs.Records.{blank_record, properb};
 ghost use Rattle.calls.specs.Calls.{start_fault, record_fault, start_of, letter_of, span_of, gap_of};
 ghost use Rattle.calls.specs.Calls.{letter_step, span_step, gap_step, accepted, answered};
 ghost use Rattle.calls.specs.Calls.{verdict_of, settled_of, count_of, verdict_reply, settled_reply, count_reply};
 
-use faults::Fault;
+use faults::{Fault, SoundTable};
 use known::Known;
 use record::Record;
 use verdicts::Verdict;
@@ -29,34 +30,70 @@ impl Answer {
     pub fn of(lent: Record, outcome: Result<Record, Fault>) -> Answer
         ensures { result ≡ answered lent outcome }
     {
-        match outcome {
-            Ok(next) => Answer { number: 0, next },
-            Err(fault) => Answer {
-                number: fault.into(),
-                next: lent,
-            },
-        }
+        let next = match outcome {
+            Ok(next) => next,
+            Err(fault) => {
+                return Answer {
+                    number: fault.into(),
+                    next: lent,
+                };
+            }
+        };
+        Answer { number: 0, next }
     }
 }
 
 // ---- the checks
 
+// A table that passes, its horizon, and a record that is proper for it: a `Known` whose record is lent, so that none is copied
+// where it is refused or only asked.
+#[derive(Clone, Copy)]
+struct Passed<'a, 'b> {
+    table: SoundTable<'a>,
+    horizon: u32,
+    held: &'b Record,
+    ghost reach: { horizon ≡ horizon_of (table_of table.bytes.now) },
+    ghost proper: { properb horizon table.head.states held.now ≡ true },
+}
+
+impl<'a, 'b> Passed<'a, 'b> {
+    fn known(&self) -> Known<'a>
+        ensures table { result.table ≡ self.now.table }
+        ensures held { result.held ≡ self.now.held.now }
+    {
+        Known {
+            table: self.table,
+            horizon: self.horizon,
+            held: *self.held,
+        }
+    }
+}
+
 // The table t, and then the record r for that table, where both pass.
-pub fn check_record(t: &[u8], r: Record) -> Result<Known<'_>, Fault>
-    ensures number { number_of result ≡ record_fault t.now r }
-    ensures table { IfOk result (λ known. known.table.bytes ≡ t.entry) }
-    ensures held { IfOk result (λ known. known.held ≡ r) }
+fn check<'a, 'b>(t: &'a [u8], r: &'b Record) -> Result<Passed<'a, 'b>, Fault>
+    ensures number { number_of result ≡ record_fault t.now r.now }
+    ensures table { IfOk result (λ passed. passed.table.bytes ≡ t.entry) }
+    ensures held { IfOk result (λ passed. passed.held ≡ r.entry) }
 {
     let table = faults::check_table(t)?;
     let horizon = meaning::horizon_of(t);
     if !r.is_proper(horizon, table.head.states) {
         return Err(Fault::Improper);
     }
-    Ok(Known {
+    Ok(Passed {
         table,
         horizon,
         held: r,
     })
+}
+
+// The same of a record that is handed in.
+pub fn check_record(t: &[u8], r: Record) -> Result<Known<'_>, Fault>
+    ensures number { number_of result ≡ record_fault t.now r }
+    ensures table { IfOk result (λ known. known.table.bytes ≡ t.entry) }
+    ensures held { IfOk result (λ known. known.held ≡ r) }
+{
+    Ok(check(t, &r)?.known())
 }
 
 // A record has room for 1 to 64 stretches.
@@ -89,6 +126,7 @@ fn check_start(t: &[u8], room: u8) -> Result<(), Fault>
 // ---- the calls
 
 // A watch begins, in a room of so many stretches.
+#[tactic(auto, using(crate::proofs::Steps::answered_by), unfolding(crate::specs::Calls::start_of))]
 pub fn start(t: &[u8], room: u8) -> Result<Record, Fault>
     ensures { answered blank_record result ≡ start_of t.now room }
 {
@@ -114,7 +152,7 @@ pub fn letter_step(known: &Known<'_>, letter: u8) -> Result<Record, Fault>
 pub fn letter(t: &[u8], r: Record, letter: u8) -> Result<Record, Fault>
     ensures { answered r result ≡ letter_of t.now r letter }
 {
-    letter_step(&check_record(t, r)?, letter)
+    letter_step(&check(t, &r)?.known(), letter)
 }
 
 // The span, where the checks 1 to 8 have passed.
@@ -131,7 +169,7 @@ pub fn span_step(known: &Known<'_>, seconds: u32) -> Result<Record, Fault>
 pub fn span(t: &[u8], r: Record, seconds: u32) -> Result<Record, Fault>
     ensures { answered r result ≡ span_of t.now r seconds }
 {
-    span_step(&check_record(t, r)?, seconds)
+    span_step(&check(t, &r)?.known(), seconds)
 }
 
 // The gap, where the checks 1 to 8 have passed.
@@ -145,28 +183,31 @@ pub fn gap_step(known: &Known<'_>) -> Record
 pub fn gap(t: &[u8], r: Record) -> Result<Record, Fault>
     ensures { answered r result ≡ gap_of t.now r }
 {
-    Ok(gap_step(&check_record(t, r)?))
+    Ok(gap_step(&check(t, &r)?.known()))
 }
 
 // ---- the questions
 
 // Yes if the sure set accepts, no if the possible set does not, unsure otherwise.
+#[tactic(auto, using(crate::proofs::Steps::refused_by), unfolding(crate::specs::Calls::verdict_of))]
 pub fn verdict(t: &[u8], r: Record) -> Result<Verdict, Fault>
     ensures { verdict_reply result ≡ verdict_of t.now r }
 {
-    Ok(verdicts::verdict_of(t, &check_record(t, r)?.held))
+    Ok(verdicts::verdict_of(t, check(t, &r)?.held))
 }
 
 // Whether the sure and the possible set are the same.
+#[tactic(auto, using(crate::proofs::Steps::refused_by), unfolding(crate::specs::Calls::settled_of))]
 pub fn settled(t: &[u8], r: Record) -> Result<bool, Fault>
     ensures { settled_reply result ≡ settled_of t.now r }
 {
-    Ok(verdicts::is_settled(&check_record(t, r)?.held))
+    Ok(verdicts::is_settled(check(t, &r)?.held))
 }
 
 // How many stretches the record holds.
+#[tactic(auto, using(crate::proofs::Steps::refused_by), unfolding(crate::specs::Calls::count_of))]
 pub fn count(t: &[u8], r: Record) -> Result<u8, Fault>
     ensures { count_reply result ≡ count_of t.now r }
 {
-    Ok(check_record(t, r)?.held.count)
+    Ok(check(t, &r)?.held.count)
 }

@@ -55,11 +55,11 @@ abbrev pub led_back_at : Table → ℕ → Stretch → ℕ → Pair
 led_back_at T a x k = cond (leb x.first k) (image_pair T true a k x.pair) no_pair
 
 module _ (T : Table) (a : ℕ) (x : Stretch) where
-  led-none : together x.first (led_back_at T a x) ≡ no_pair
+  pub led-none : together x.first (led_back_at T a x) ≡ no_pair
   led-none = together-none (led_back_at T a x) x.first (λ k l. rw (lt-leb x.first k l))
 
   -- the ages of a piece at once
-  led-piece : (k : ℕ) (q : Piece) → x.first ≤ k → k ≤ x.last → q ≡ piece_of T true a k x.last x.pair
+  pub led-piece : (k : ℕ) (q : Piece) → x.first ≤ k → k ≤ x.last → q ≡ piece_of T true a k x.last x.pair
       → both (together k (led_back_at T a x)) q.led ≡ together (suc q.end) (led_back_at T a x)
   led-piece k q low high e =
       ap (λ (q : Piece). both (together k (led_back_at T a x)) q.led) e
@@ -139,7 +139,7 @@ module _ (T : Table) (a : ℕ) (f : Pairs) where
       one x m = ap (λ n. bit_or (image T false a 0 m) (bit_or n T.standing)) (side-together x (ages (horizon T)) back)
 
   -- above age 0 the letter adds nothing to what it keeps
-  later-pair : (k : ℕ) → 1 ≤ k → step_pairs T (letter a) f k ≡ image_pair T false a k (f k)
+  pub later-pair : (k : ℕ) → 1 ≤ k → step_pairs T (letter a) f k ≡ image_pair T false a k (f k)
   unfolding step_pairs step_at letter_at
   later-pair k l = rw (ne_eqb k 0 (λ e. omega arith)) (pair_ext _ _ (or_zero_r _) (or_zero_r _))
 
@@ -156,10 +156,10 @@ module _ (T : Table) (H n a : ℕ) (r : Record) (reach : H ≡ horizon T) (ok : 
 -- ---- the ages above 0, of a stretch
 
 module _ (T : Table) (a : ℕ) (p : Pair) (lo : ℕ) (so_far : Record) where
-  kept-none : KeptOn T a p lo lo so_far so_far
+  pub kept-none : KeptOn T a p lo lo so_far so_far
   kept-none room above g small same e = e
 
-  kept_piece : (k last : ℕ) (q : Piece) (out next : Record) → KeptOn T a p lo k so_far out → lo ≤ k → k ≤ last
+  pub kept_piece : (k last : ℕ) (q : Piece) (out next : Record) → KeptOn T a p lo k so_far out → lo ≤ k → k ≤ last
       → q ≡ piece_of T false a k last p → next ≡ pushed out k q.end q.led → KeptOn T a p lo (suc q.end) so_far next
   kept_piece k last q out next on low high e d room above g small same s =
       let after = (until_within T false a k last q.end end high).0 in

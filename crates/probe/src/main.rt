@@ -18,6 +18,8 @@
 // entry 3. The answers in the file stdout are worked out from the document.
 #![tactic(auto)]
 
+ghost use Rattle.std.specs.Prelude.{◌+◌, ◌≤◌, IfSome};
+
 use calls::Answer;
 use faults::Fault;
 use record::{Pair, Record, Stretch};
@@ -27,14 +29,24 @@ use std::io::{ErrorKind, Read, Write};
 // No case is longer.
 const LONGEST: usize = 131_072;
 
+// A record's bytes, and those of the longest answer.
+const RECORD: usize = 774;
+
+const ANSWER: usize = 775;
+
 // ---- the cases
 
-// What a case asks.
+// What a case asks: of a table, of a start, or of a record that is held.
 #[derive(Clone, Copy)]
 enum Kind {
     Table,
-    Record,
     Start,
+    Held(Asked),
+}
+
+#[derive(Clone, Copy)]
+enum Asked {
+    Record,
     Letter,
     Span,
     Gap,
@@ -53,20 +65,21 @@ impl TryFrom<u8> for Kind {
     fn try_from(byte: u8) -> Result<Kind, NoKind> {
         Ok(match byte {
             1 => Kind::Table,
-            2 => Kind::Record,
+            2 => Kind::Held(Asked::Record),
             3 => Kind::Start,
-            4 => Kind::Letter,
-            5 => Kind::Span,
-            6 => Kind::Gap,
-            7 => Kind::Verdict,
-            8 => Kind::Settled,
-            9 => Kind::Count,
+            4 => Kind::Held(Asked::Letter),
+            5 => Kind::Held(Asked::Span),
+            6 => Kind::Held(Asked::Gap),
+            7 => Kind::Held(Asked::Verdict),
+            8 => Kind::Held(Asked::Settled),
+            9 => Kind::Held(Asked::Count),
             _ => return Err(NoKind),
         })
     }
 }
 
-// ---- the parts of a case. Each is taken off the front of its bytes, where they are all there; what is left is the table.
+// ---- the parts of a case. Each is taken off its front, where its bytes are all there; what is left is the table. What a record has
+// stands at places of its own.
 
 fn take<const N: usize>(case: &mut &[u8]) -> Option<[u8; N]> {
     let (front, rest) = case.split_first_chunk()?;
@@ -74,131 +87,148 @@ fn take<const N: usize>(case: &mut &[u8]) -> Option<[u8; N]> {
     Some(*front)
 }
 
-fn take_pair(case: &mut &[u8]) -> Option<Pair> {
-    Some(Pair {
-        sure: u16::from_be_bytes(take(case)?),
-        possible: u16::from_be_bytes(take(case)?),
-    })
+fn pair_in(s: &[u8; RECORD], at: usize) -> Pair
+    requires { at + 4 ≤ 774 }
+{
+    Pair {
+        sure: u16::from_be_bytes([s[at], s[at + 1]]),
+        possible: u16::from_be_bytes([s[at + 2], s[at + 3]]),
+    }
 }
 
-fn take_stretch(case: &mut &[u8]) -> Option<Stretch> {
-    Some(Stretch {
-        first: u32::from_be_bytes(take(case)?),
-        last: u32::from_be_bytes(take(case)?),
-        pair: take_pair(case)?,
-    })
+fn stretch_in(s: &[u8; RECORD], at: usize) -> Stretch
+    requires { at + 12 ≤ 774 }
+{
+    Stretch {
+        first: u32::from_be_bytes([s[at], s[at + 1], s[at + 2], s[at + 3]]),
+        last: u32::from_be_bytes([s[at + 4], s[at + 5], s[at + 6], s[at + 7]]),
+        pair: pair_in(s, at + 8),
+    }
 }
 
 fn take_record(case: &mut &[u8]) -> Option<Record> {
-    let [room, count] = take::<2>(case)?;
+    let (front, rest) = case.split_first_chunk::<RECORD>()?;
+    *case = rest;
     let mut places = [Stretch::default(); 64];
-    for place in &mut places {
-        *place = take_stretch(case)?;
+    for i in 0..64 {
+        places[i] = stretch_in(front, 2 + 12 * i);
     }
     Some(Record {
-        room,
-        count,
+        room: front[0],
+        count: front[1],
         places,
-        above: take_pair(case)?,
+        above: pair_in(front, 770),
     })
 }
 
-// ---- the answers
+// ---- the answers as bytes. Each is put together in a lent buffer, from its start on, and written at once; what puts one answers how
+// many bytes it has. The number comes first, and 0 stands for what a refused case does not have.
 
-// A table's horizon, whether a record passes, a call's answer, and a question's in a byte.
-enum Reply {
-    Horizon(Result<u32, Fault>),
-    Passes(Result<(), Fault>),
-    Called(Answer),
-    Told(Result<u8, Fault>),
+fn put_pair(out: &mut [u8; ANSWER], at: usize, pair: Pair)
+    requires { at + 4 ≤ 775 }
+{
+    [out[at], out[at + 1]] = pair.sure.to_be_bytes();
+    [out[at + 2], out[at + 3]] = pair.possible.to_be_bytes();
 }
 
-// The reply to a case of that kind, where it has every part that its kind has.
-fn reply_to(kind: Kind, mut case: &[u8]) -> Option<Reply> {
-    Some(match kind {
-        Kind::Table => {
-            Reply::Horizon(faults::check_table(case).map(|_| meaning::horizon_of(case)))
+fn put_stretch(out: &mut [u8; ANSWER], at: usize, x: Stretch)
+    requires { at + 12 ≤ 775 }
+{
+    [out[at], out[at + 1], out[at + 2], out[at + 3]] = x.first.to_be_bytes();
+    [out[at + 4], out[at + 5], out[at + 6], out[at + 7]] = x.last.to_be_bytes();
+    put_pair(out, at + 8, x.pair);
+}
+
+// A call's.
+fn put_answer(out: &mut [u8; ANSWER], answer: &Answer) -> usize
+    ensures { result ≤ 775 }
+{
+    out[0] = answer.number;
+    out[1] = answer.next.room;
+    out[2] = answer.next.count;
+    for i in 0..64 {
+        put_stretch(out, 3 + 12 * i, answer.next.places[i]);
+    }
+    put_pair(out, 771, answer.next.above);
+    ANSWER
+}
+
+// A table's horizon.
+fn put_horizon(out: &mut [u8; ANSWER], horizon: Result<u32, Fault>) -> usize
+    ensures { result ≤ 775 }
+{
+    let (number, bytes) = match horizon {
+        Ok(horizon) => (0, horizon.to_be_bytes()),
+        Err(fault) => (fault.into(), [0; 4]),
+    };
+    out[0] = number;
+    [out[1], out[2], out[3], out[4]] = bytes;
+    5
+}
+
+// Whether a record passes.
+fn put_passes(out: &mut [u8; ANSWER], passes: Result<(), Fault>) -> usize
+    ensures { result ≤ 775 }
+{
+    out[0] = match passes {
+        Ok(()) => 0,
+        Err(fault) => fault.into(),
+    };
+    1
+}
+
+// A question's, in a byte.
+fn put_told(out: &mut [u8; ANSWER], told: Result<u8, Fault>) -> usize
+    ensures { result ≤ 775 }
+{
+    [out[0], out[1]] = match told {
+        Ok(value) => [0, value],
+        Err(fault) => [fault.into(), 0],
+    };
+    2
+}
+
+// The answer to a case that has a record.
+fn put_held(out: &mut [u8; ANSWER], asked: Asked, r: Record, mut case: &[u8]) -> Option<usize>
+    ensures { IfSome result (λ n. n ≤ 775) }
+{
+    let outcome = match asked {
+        Asked::Record => return Some(put_passes(out, calls::check_record(case, r).map(|_| ()))),
+        Asked::Letter => {
+            let [letter] = take::<1>(&mut case)?;
+            calls::letter(case, r, letter)
         }
-        Kind::Record => {
-            let r = take_record(&mut case)?;
-            Reply::Passes(calls::check_record(case, r).map(|_| ()))
+        Asked::Span => {
+            let seconds = u32::from_be_bytes(take(&mut case)?);
+            calls::span(case, r, seconds)
+        }
+        Asked::Gap => calls::gap(case, r),
+        Asked::Verdict => return Some(put_told(out, calls::verdict(case, r).map(u8::from))),
+        Asked::Settled => return Some(put_told(out, calls::settled(case, r).map(u8::from))),
+        Asked::Count => return Some(put_told(out, calls::count(case, r))),
+    };
+    Some(put_answer(out, &Answer::of(r, outcome)))
+}
+
+// The answer to a case of that kind, where it has every part that its kind has.
+fn put_reply(out: &mut [u8; ANSWER], kind: Kind, mut case: &[u8]) -> Option<usize>
+    ensures { IfSome result (λ n. n ≤ 775) }
+{
+    match kind {
+        Kind::Table => {
+            let horizon = faults::check_table(case).map(|_| meaning::horizon_of(case));
+            Some(put_horizon(out, horizon))
         }
         Kind::Start => {
             let [room] = take::<1>(&mut case)?;
             let blank = Record::empty(0, Pair::default());
-            Reply::Called(Answer::of(blank, calls::start(case, room)))
+            let answer = Answer::of(blank, calls::start(case, room));
+            Some(put_answer(out, &answer))
         }
-        Kind::Letter => {
+        Kind::Held(asked) => {
             let r = take_record(&mut case)?;
-            let [letter] = take::<1>(&mut case)?;
-            Reply::Called(Answer::of(r, calls::letter(case, r, letter)))
+            put_held(out, asked, r, case)
         }
-        Kind::Span => {
-            let r = take_record(&mut case)?;
-            let seconds = u32::from_be_bytes(take(&mut case)?);
-            Reply::Called(Answer::of(r, calls::span(case, r, seconds)))
-        }
-        Kind::Gap => {
-            let r = take_record(&mut case)?;
-            Reply::Called(Answer::of(r, calls::gap(case, r)))
-        }
-        Kind::Verdict => {
-            let r = take_record(&mut case)?;
-            Reply::Told(calls::verdict(case, r).map(u8::from))
-        }
-        Kind::Settled => {
-            let r = take_record(&mut case)?;
-            Reply::Told(calls::settled(case, r).map(u8::from))
-        }
-        Kind::Count => {
-            let r = take_record(&mut case)?;
-            Reply::Told(calls::count(case, r))
-        }
-    })
-}
-
-// ---- the answers as bytes. Each is put together first, and written at once.
-
-fn write_pair(out: &mut impl Write, pair: Pair) -> io::Result<()> {
-    out.write_all(&pair.sure.to_be_bytes())?;
-    out.write_all(&pair.possible.to_be_bytes())
-}
-
-fn write_stretch(out: &mut impl Write, x: Stretch) -> io::Result<()> {
-    out.write_all(&x.first.to_be_bytes())?;
-    out.write_all(&x.last.to_be_bytes())?;
-    write_pair(out, x.pair)
-}
-
-fn write_record(out: &mut impl Write, r: &Record) -> io::Result<()> {
-    out.write_all(&[r.room, r.count])?;
-    for x in r.places {
-        write_stretch(out, x)?;
-    }
-    write_pair(out, r.above)
-}
-
-fn write_answer(output: &mut impl Write, answer: &Answer) -> io::Result<()> {
-    let mut bytes = [0; 775];
-    let mut out = &mut bytes[..];
-    out.write_all(&[answer.number])?;
-    write_record(&mut out, &answer.next)?;
-    output.write_all(&bytes)
-}
-
-// The number first, and 0 for what a refused case does not have.
-fn write_reply(output: &mut impl Write, reply: Reply) -> io::Result<()> {
-    match reply {
-        Reply::Horizon(Ok(horizon)) => {
-            let [a, b, c, d] = horizon.to_be_bytes();
-            output.write_all(&[0, a, b, c, d])
-        }
-        Reply::Horizon(Err(fault)) => output.write_all(&[fault.into(), 0, 0, 0, 0]),
-        Reply::Passes(Ok(())) => output.write_all(&[0]),
-        Reply::Passes(Err(fault)) => output.write_all(&[fault.into()]),
-        Reply::Called(answer) => write_answer(output, &answer),
-        Reply::Told(Ok(value)) => output.write_all(&[0, value]),
-        Reply::Told(Err(fault)) => output.write_all(&[fault.into(), 0]),
     }
 }
 
@@ -235,14 +265,15 @@ fn read_case<'a>(
 
 fn main(rt: HostRuntime) -> io::Result<()> {
     let mut space = [0; LONGEST];
+    let mut out = [0; ANSWER];
     for _ in 0..u32::MAX {
         let Some((kind, case)) = read_case(&mut rt.stdin(), &mut space)? else {
             break;
         };
-        let Some(reply) = reply_to(kind, case) else {
+        let Some(count) = put_reply(&mut out, kind, case) else {
             break;
         };
-        write_reply(&mut rt.stdout(), reply)?;
+        rt.stdout().write_all(&out[..count])?;
     }
     Ok(())
 }

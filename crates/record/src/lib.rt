@@ -116,40 +116,39 @@ impl Record {
         if horizon < age {
             return self.above;
         }
-        let mut pair = Pair::default();
-        for x in self.stretches() {
+        // From the last on, since of a record that is not proper the last that has the age decides.
+        let stretches = self.stretches();
+        for i in (0..stretches.len()).rev() {
+            let x = stretches[i];
             if x.contains(age) {
-                pair = x.pair;
+                return x.pair;
             }
         }
-        pair
+        Pair::default()
     }
 
     // ---- whether a record is proper
 
     // Place i, behind the place before it: in use it is a proper stretch and may follow that one; otherwise it is zero.
-    #[tactic(auto, using(base::proofs::Rules::tests), unfolding(crate::specs::Records::blankb))]
-    fn place_ok(&self, horizon: u32, states: u8, i: usize, before: Stretch) -> bool
+    #[tactic(auto, using(base::proofs::Rules::tests), unfolding(crate::specs::Records::blankb, crate::specs::Records::place_okb))]
+    fn place_ok(&self, horizon: u32, states: u8, i: usize) -> bool
         requires { i < 64 }
-        ensures { result ≡ in_place_okb horizon states self.now.count i before (place self.now i) }
+        ensures { result ≡ place_okb horizon states self.now i }
     {
         let here = self.places[i];
         if usize::from(self.count) <= i {
             return here == Stretch::default();
         }
-        here.is_ok(horizon, states) && (i == 0 || here.follows(before))
+        here.is_ok(horizon, states) && (i == 0 || here.follows(self.places[i - 1]))
     }
 
     fn places_ok(&self, horizon: u32, states: u8) -> bool
         ensures { result ≡ all 64 (place_okb horizon states self.now) }
     {
-        // Before place 0 stands nothing; what is put here for it is not looked at.
-        let mut before = self.places[0];
         for i in 0..64 {
-            if !self.place_ok(horizon, states, i, before) {
+            if !self.place_ok(horizon, states, i) {
                 return false;
             }
-            before = self.places[i];
         }
         true
     }

@@ -9,17 +9,14 @@ use native.Mathlib.Omega.{arith}
 use lib.ListN.{length, take}
 use borrow.Author.Tests.{ne_eqb}
 use Rattle.table.specs.Numbers.{byte}
-use Rattle.meaning.specs.Tables.{table_of}
 use Rattle.record.specs.declared.Record.{Record}
-use Rattle.record.specs.Verdicts.{verdict_at, settled_at}
 use Rattle.calls.specs.declared.Answer.{Answer}
-use Rattle.calls.specs.Calls.{pairs_of, needed, accepted, start_of}
+use Rattle.calls.specs.Calls.{accepted, start_of}
 use Rattle.text.specs.declared.Lines.{Lines}
 use Rattle.text.specs.Text.{refusal_text, Adds}
-use Rattle.text.proofs.Laws.{line_length}
 use Rattle.session.specs.Sessions.{framed, table_in, held_text, answer_text, entries_from, begun_text, started_text, session_of}
 use Rattle.session.specs.Ready.{Begins, Ready}
-use Rattle.session.proofs.Laws.{answer-refused, table-length}
+use Rattle.session.proofs.Laws.{answer-refused, answer-length, table-length}
 
 -- ---- the start, as code takes it
 
@@ -40,10 +37,10 @@ module _ (b s : List ℕ) (room from : ℕ) where
   begun_accepted r started = begun (accepted r) started _ refl
 
 -- behind the start's line there is room for the entries'
-pub begun_ready : (b s : List ℕ) (from : ℕ) (r : Record) (before mid : Lines)
-    → Begins s from (length before.out.now) → before.at ≡ 0 → Adds before (held_text b 0 r) mid
+pub begun_ready : (b s : List ℕ) (from : ℕ) (a : Answer) (before mid : Lines)
+    → Begins s from (length before.out.now) → before.at ≡ 0 → Adds before (answer_text b 0 a) mid
     → Ready s from mid.at (length mid.out.now)
-begun_ready b s from r before mid begins empty w = record {
+begun_ready b s from a before mid begins empty w = record {
   short = begins.short;
   behind = begins.behind;
   within = begins.within;
@@ -56,7 +53,7 @@ begun_ready b s from r before mid begins empty w = record {
     empty,
     w.same_length,
     w.wrote.0,
-    line_length 0 (verdict_at (table_of b) (pairs_of b r)) (settled_at (table_of b) (pairs_of b r)) (needed b (pairs_of b r)),
+    answer-length b 0 a,
   );
 }
 

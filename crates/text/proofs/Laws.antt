@@ -10,6 +10,7 @@ use lib.Dec.{lit≤}
 use lib.ListN.{length, take, length-append}
 use lib.Seq.{length-take-le, take-take, take_at}
 use borrow.Author.Tests.{lt-ltb, le-ltb}
+use denote.Ref.{MutBor}
 use Rattle.io.specs.Digits.{last_digits, IsDigitCount}
 use Rattle.record.specs.Verdicts.{Verdict, says_yes, says_no, unsure}
 use Rattle.text.specs.declared.Lines.{Lines}
@@ -35,6 +36,20 @@ adds_then first second = record {
 pub wrote-settles : (before word x y : List ℕ) (at m n : ℕ) → Wrote before at word x m → Wrote before at word y n
     → (m ≡ n) × (take m x ≡ take n y)
 wrote-settles before word x y at m n v w = (v.0 ∙ sym w.0, v.1 ∙ sym w.1)
+
+-- so it is of the lines, whose buffer is the one that was lent; and nothing is left open of lines with nothing written
+pub adds_settles : (before x y : Lines) (word : List ℕ) → Adds before word x → Adds before word y
+    → (x.out.ghost_name ≡ y.out.ghost_name) × ((x.at ≡ y.at) × (take x.at x.out.now ≡ take y.at y.out.now))
+adds_settles before x y word v w = (
+  v.same_buffer ∙ sym w.same_buffer,
+  wrote-settles before.out.now word x.out.now y.out.now before.at x.at y.at v.wrote w.wrote,
+)
+
+pub lines_settle : (out : MutBor (List ℕ)) (x y : Lines) → (x.out ≡ out) × (x.at ≡ 0) → (y.out ≡ out) × (y.at ≡ 0) → x ≡ y
+lines_settle out x y e f =
+    let one = e.0 ∙ sym f.0 in
+    let two = e.1 ∙ sym f.1 in
+    λ i. record { out = one i; at = two i }
 
 -- what stood before the word stays
 pub wrote_kept : (before after word : List ℕ) (at end : ℕ) → at ≤ length before → Wrote before at word after end

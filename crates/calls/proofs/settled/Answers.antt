@@ -1,28 +1,20 @@
 -- `calls::settled` is its checks and what was asked. Assumes nothing.
 use mathlib.Core.Path.{refl, ◌∙◌}
 use native.Mathlib.Omega.{arith}
-use Rattle.std.proofs.lemmas.Result.{err_from_is_err_and}
-use Rattle.faults.proofs.Numbered.{number-some}
 use Rattle.verdicts.proofs.Laws.{settled_in_lem}
 use Rattle.calls.specs.Calls.{settled_of}
-use Rattle.calls.proofs.Steps.{ask_refused, ask_passed, proper-known}
+use Rattle.calls.proofs.Steps.{ask_passed, proper-known}
 use Rattle.calls.proofs.settled.Goals as goal
-
-pub returns-in_err-check_record : goal.returns-in_err-check_record
-unfolding settled_of
-returns-in_err-check_record c =
-    let p = err_from_is_err_and c.from_residual.result c.from_residual.ensures.1 in
-    rw (p.1, p.2) (ask_refused _ _ _ c.in_err-check_record.ensures.number (number-some _))
 
 pub is_settled-requires : goal.is_settled-requires
 is_settled-requires c =
-    let passed = c.in_ok-check_record.ensures in
+    let passed = c.in_ok-check.ensures in
     let p = proper-known _ _ 0 passed.number refl in
     rw passed.held (omega (arith, p.fits, p.room_high))
 
 pub returns : goal.returns
 unfolding settled_of
 returns c =
-    let passed = c.in_ok-check_record.ensures in
+    let passed = c.in_ok-check.ensures in
     let told = rw passed.held at c.is_settled.ensures in
     ask_passed 0 _ _ passed.number refl _ (told ∙ settled_in_lem _ _ _ (proper-known _ _ 0 passed.number refl))

@@ -1,15 +1,8 @@
 -- `calls::start` is its checks and its step. Assumes nothing.
 use mathlib.Core.Path.{sym, refl}
-use Rattle.std.proofs.lemmas.Result.{err_from_is_err_and}
-use Rattle.faults.proofs.Numbered.{number-some}
 use Rattle.calls.proofs.Laws.{start_fault-iff}
-use Rattle.calls.proofs.Steps.{begin_refused, begin_passed}
+use Rattle.calls.proofs.Steps.{begin_passed}
 use Rattle.calls.proofs.start.Goals as goal
-
-pub returns-in_err-check_start : goal.returns-in_err-check_start
-returns-in_err-check_start c =
-    let p = err_from_is_err_and c.from_residual.result c.from_residual.ensures.1 in
-    rw (p.1, p.2) (begin_refused c.args.t.now c.args.room _ _ c.in_err-check_start.ensures (number-some _) refl)
 
 pub at_start-requires-clause-room_low : goal.at_start-requires-clause-room_low
 at_start-requires-clause-room_low c = ((start_fault-iff _ _).0 (sym c.in_ok-check_start.ensures)).1.0

@@ -1,4 +1,4 @@
--- `calls::check_record` meets its contract: the table's number comes first, then the record's. Assumes nothing.
+-- `calls::check` meets its contract: the table's number comes first, then the record's. Assumes nothing.
 use mathlib.Core.Path.{ap, ◌∙◌}
 use Rattle.std.proofs.lemmas.Result.{err_from_is_err_and}
 use Rattle.base.proofs.Rules.{checks, stops_at}
@@ -7,7 +7,7 @@ use Rattle.table.specs.Table.{head_of}
 use Rattle.meaning.specs.Tables.{table_of}
 use Rattle.calls.specs.Calls.{record_fault}
 use Rattle.calls.proofs.Laws.{record_fault-on}
-use Rattle.calls.proofs.check_record.Goals as goal
+use Rattle.calls.proofs.check.Goals as goal
 
 pub returns-in_err-table-clause-number : goal.returns-in_err-table-clause-number
 unfolding record_fault
