@@ -26,8 +26,9 @@ use Rattle.verdicts.specs.Said.{verdict_case}
 use Rattle.verdicts.proofs.Laws.{verdict_case-one}
 use mathlib.Core.Logic.{inl, inr}
 use Rattle.calls.specs.declared.Answer.{Answer}
+use Rattle.calls.specs.declared.Refusal.{Refusal}
 use Rattle.calls.proofs.Steps.{ask_refused}
-use Rattle.calls.specs.Calls.{pairs_of, reply, record_fault, start_of, letter_of, span_of, gap_of, letter_step, span_step, gap_step, Reply, refused, told, reply_number, verdict_of, settled_of, count_of, accepted, answered, VerdictReply, SettledReply, CountReply, replied, verdict_reply, settled_reply, count_reply}
+use Rattle.calls.specs.Calls.{pairs_of, reply, record_fault, start_of, letter_of, span_of, gap_of, letter_step, span_step, gap_step, Reply, refused, told, reply_number, verdict_of, settled_of, count_of, accepted, refusal, answered, VerdictReply, SettledReply, CountReply, replied, verdict_reply, settled_reply, count_reply}
 
 -- two results that meet the promise P are the same
 abbrev pub Settles : {A : Type 0} → (A → Type 0) → Type 0
@@ -77,11 +78,17 @@ count_reply-one = replied-one _ (λ a c e. e)
 pub accepted-one : (x y : Record) → accepted x ≡ accepted y → x ≡ y
 accepted-one x y e = ap (λ (a : Answer). a.next) e
 
-pub answered-one : (old : Record) (x y : Result Record Fault) → answered old x ≡ answered old y → x ≡ y
-answered-one old (Err m) (Err n) e = ap Err (number-one m n (ap (λ (a : Answer). a.number) e))
-answered-one old (Err m) (Ok a) e = absurd (number-some m (ap (λ (a : Answer). a.number) e))
-answered-one old (Ok a) (Err n) e = absurd (number-some n (ap (λ (a : Answer). a.number) (sym e)))
-answered-one old (Ok a) (Ok c) e = ap Ok (accepted-one a c e)
+refusal-one : (x y : Refusal) → refusal (number x.fault) x.held ≡ refusal (number y.fault) y.held → x ≡ y
+refusal-one x y e =
+    let why = number-one x.fault y.fault (ap (λ (a : Answer). a.number) e) in
+    let back = ap (λ (a : Answer). a.next) e in
+    λ i. record { fault = why i; held = back i }
+
+pub answered-one : (x y : Result Record Refusal) → answered x ≡ answered y → x ≡ y
+answered-one (Err m) (Err n) e = ap Err (refusal-one m n e)
+answered-one (Err m) (Ok a) e = absurd (number-some m.fault (ap (λ (a : Answer). a.number) e))
+answered-one (Ok a) (Err n) e = absurd (number-some n.fault (ap (λ (a : Answer). a.number) (sym e)))
+answered-one (Ok a) (Ok c) e = ap Ok (accepted-one a c e)
 
 -- ---- the promises of the library's face
 
@@ -119,10 +126,10 @@ module _ (b : List ℕ) (r : Record) where
   pub count_settles : Settles (λ (x : CountReply). count_reply x ≡ count_of b r)
   count_settles x y p q = count_reply-one x y (p ∙ sym q)
 
--- ---- the same of what the code answers, to which the record `old` was lent
+-- ---- the same of what the code answers
 
-pub answered_settles : (old : Record) (v : Answer) → Settles (λ (x : Result Record Fault). answered old x ≡ v)
-answered_settles old v x y p q = answered-one old x y (p ∙ sym q)
+pub answered_settles : (v : Answer) → Settles (λ (x : Result Record Refusal). answered x ≡ v)
+answered_settles v x y p q = answered-one x y (p ∙ sym q)
 
 pub accepted_settles : (v : Answer) → Settles (λ (x : Record). accepted x ≡ v)
 accepted_settles v x y p q = accepted-one x y (p ∙ sym q)

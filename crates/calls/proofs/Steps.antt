@@ -33,7 +33,7 @@ use Rattle.known.proofs.Laws.{proper-held}
 use Rattle.spans.specs.Spans.{span_pairs}
 use Rattle.spans.proofs.Laws.{span_stepped}
 use Rattle.calls.specs.declared.Answer.{Answer}
-use Rattle.calls.specs.Calls.{holding, needed, stepped, ProperFor, start_fault, record_fault, letter_fault, span_fault, answer, start_of, letter_of, span_of, gap_of, accepted, refusal, letter_step, span_step, gap_step, checked, refused, told, reply, pairs_of, verdict_of, settled_of, count_of, replied, answered}
+use Rattle.calls.specs.Calls.{holding, needed, stepped, ProperFor, start_fault, record_fault, letter_fault, span_fault, answer, start_of, letter_of, span_of, gap_of, accepted, refusal, letter_step, span_step, gap_step, checked, refused, told, reply, pairs_of, verdict_of, settled_of, count_of, replied}
 use Rattle.calls.proofs.Laws.{record_fault-iff}
 
 -- ---- each call is its checks and its step
@@ -94,13 +94,6 @@ pub refused_by : {A B : Type 0} (g : A → B) (x : Result A Fault) (f : Fault) (
     → IsErrAnd x (λ y. y ≡ f) → number f ≡ m → replied g x ≡ reply m v
 refused_by g (Ok a) f m v h e = absurd h
 refused_by g (Err y) f m v h e = ask_refused (number y) m v (ap number h ∙ e) (number-some y)
-
--- and a call's
-pub answered_by : (x : Result Record Fault) (f : Fault) (m : ℕ) (old new : Record) → IsErrAnd x (λ y. y ≡ f) → number f ≡ m
-    → answered old x ≡ answer m old new
-answered_by (Ok a) f m old new h e = absurd h
-answered_by (Err y) f zero old new h e = absurd (number-some y (ap number h ∙ e))
-answered_by (Err y) f (suc m) old new h e = ap (λ n. refusal n old) (ap number h ∙ e)
 
 -- a start, which has no record to hand back
 module _ (b : List ℕ) (room f : ℕ) (next : Record) (e : f ≡ start_fault b room) where

@@ -16,6 +16,7 @@ use Rattle.record.specs.Records.{blank_record, pairs_at, record_of, Proper, prop
 use Rattle.verdicts.specs.declared.Verdict.{Verdict as Case}
 use Rattle.verdicts.specs.Said.{verdict_case}
 use Rattle.calls.specs.declared.Answer.{Answer}
+use Rattle.calls.specs.declared.Refusal.{Refusal}
 
 -- ---- the table and the record that were handed in
 
@@ -143,10 +144,10 @@ count_of b r = reply (record_fault b r) (needed b (pairs_of b r))
 
 -- ---- what the code answers: "a definition gives this paper's number and values for each of the enum's cases"
 
--- a call, to which the record `old` was lent
-abbrev pub answered : Record → Result Record Fault → Answer
-answered old (Ok new) = accepted new
-answered old (Err f) = refusal (number f) old
+-- a call
+abbrev pub answered : Result Record Refusal → Answer
+answered (Ok new) = accepted new
+answered (Err x) = refusal (number x.fault) x.held
 
 -- a question
 abbrev pub VerdictReply : Type 0

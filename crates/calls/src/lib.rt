@@ -5,16 +5,24 @@
 
 ghost use Rattle.std.specs.Prelude.{◌≡◌, ◌&&◌, ◌||◌, not, true, eqb, leb, ltb, IfOk};
 ghost use Rattle.meaning.specs.Tables.{table_of, horizon as horizon_of};
-ghost use Rattle.faults.specs.Numbered.{number_of};
-ghost use Rattle.record.specs.Records.{blank_record, properb};
+ghost use Rattle.faults.specs.Numbered.{number, number_of};
+ghost use Rattle.record.specs.Records.{properb};
 ghost use Rattle.calls.specs.Calls.{start_fault, record_fault, start_of, letter_of, span_of, gap_of};
-ghost use Rattle.calls.specs.Calls.{letter_step, span_step, gap_step, accepted, answered};
+ghost use Rattle.calls.specs.Calls.{letter_step, span_step, gap_step, accepted, refusal, answered};
 ghost use Rattle.calls.specs.Calls.{verdict_of, settled_of, count_of, verdict_reply, settled_reply, count_reply};
 
 use faults::{Fault, SoundTable};
 use known::Known;
-use record::Record;
+use record::{Pair, Record};
 use verdicts::Verdict;
+
+// Why a call is refused, with the record as it was handed in; a refused start has a record of all zeros. The record lies first, where
+// that of an accepted call lies: so it is moved as a whole.
+#[derive(Clone, Copy)]
+pub struct Refusal {
+    pub held: Record,
+    pub fault: Fault,
+}
 
 // What start, letter, span and gap answer where a number is wanted, as in C: 0 with the new record, or the number of the first
 // check that failed with the record as it was handed in; a refused start has a record of all zeros.
@@ -26,16 +34,15 @@ pub struct Answer {
 }
 
 impl Answer {
-    // The answer of a call to which the record was lent.
-    pub fn of(lent: Record, outcome: Result<Record, Fault>) -> Answer
-        ensures { result ≡ answered lent outcome }
+    pub fn of(outcome: Result<Record, Refusal>) -> Answer
+        ensures { result ≡ answered outcome }
     {
         let next = match outcome {
             Ok(next) => next,
-            Err(fault) => {
+            Err(Refusal { held, fault }) => {
                 return Answer {
                     number: fault.into(),
-                    next: lent,
+                    next: held,
                 };
             }
         };
@@ -125,51 +132,65 @@ fn check_start(t: &[u8], room: u8) -> Result<(), Fault>
 
 // ---- the calls
 
-// A watch begins, in a room of so many stretches.
-#[tactic(auto, using(crate::proofs::Steps::answered_by), unfolding(crate::specs::Calls::start_of))]
-pub fn start(t: &[u8], room: u8) -> Result<Record, Fault>
-    ensures { answered blank_record result ≡ start_of t.now room }
+// A refusal that hands the record r back.
+fn refused(fault: Fault, r: Record) -> Result<Record, Refusal>
+    ensures { answered result ≡ refusal (number fault) r }
 {
-    check_start(t, room)?;
-    Ok(spans::at_start(t, room))
+    Err(Refusal { held: r, fault })
+}
+
+// A watch begins, in a room of so many stretches.
+pub fn start(t: &[u8], room: u8) -> Result<Record, Refusal>
+    ensures { answered result ≡ start_of t.now room }
+{
+    match check_start(t, room) {
+        Ok(()) => Ok(spans::at_start(t, room)),
+        Err(fault) => refused(fault, Record::empty(0, Pair::default())),
+    }
 }
 
 // The letter, where the checks 1 to 8 have passed.
-pub fn letter_step(known: &Known<'_>, letter: u8) -> Result<Record, Fault>
-    ensures { answered known.now.held result ≡ letter_step known.now.table.bytes.now known.now.held letter }
+pub fn letter_step(known: &Known<'_>, letter: u8) -> Result<Record, Refusal>
+    ensures { answered result ≡ letter_step known.now.table.bytes.now known.now.held letter }
 {
     if known.table.head.letters <= letter {
-        return Err(Fault::Letter);
+        return refused(Fault::Letter, known.held);
     }
     let next = letters::after_letter(known, letter);
     if known.held.room < next.count {
-        return Err(Fault::Room);
+        return refused(Fault::Room, known.held);
     }
     Ok(next)
 }
 
 // A letter arrives.
-pub fn letter(t: &[u8], r: Record, letter: u8) -> Result<Record, Fault>
-    ensures { answered r result ≡ letter_of t.now r letter }
+pub fn letter(t: &[u8], r: Record, letter: u8) -> Result<Record, Refusal>
+    ensures { answered result ≡ letter_of t.now r letter }
 {
-    letter_step(&check(t, &r)?.known(), letter)
+    match check(t, &r) {
+        Ok(passed) => letter_step(&passed.known(), letter),
+        Err(fault) => refused(fault, r),
+    }
 }
 
 // The span, where the checks 1 to 8 have passed.
-pub fn span_step(known: &Known<'_>, seconds: u32) -> Result<Record, Fault>
-    ensures { answered known.now.held result ≡ span_step known.now.table.bytes.now known.now.held seconds }
+pub fn span_step(known: &Known<'_>, seconds: u32) -> Result<Record, Refusal>
+    ensures { answered result ≡ span_step known.now.table.bytes.now known.now.held seconds }
 {
     if !is_span(seconds) {
-        return Err(Fault::Span);
+        return refused(Fault::Span, known.held);
     }
     Ok(spans::after_span(known.horizon, &known.held, seconds))
 }
 
 // So many seconds pass.
-pub fn span(t: &[u8], r: Record, seconds: u32) -> Result<Record, Fault>
-    ensures { answered r result ≡ span_of t.now r seconds }
+pub fn span(t: &[u8], r: Record, seconds: u32) -> Result<Record, Refusal>
+    ensures { answered result ≡ span_of t.now r seconds }
 {
-    span_step(&check(t, &r)?.known(), seconds)
+    match check(t, &r) {
+        Ok(passed) => span_step(&passed.known(), seconds),
+        Err(fault) => refused(fault, r),
+    }
 }
 
 // The gap, where the checks 1 to 8 have passed.
@@ -180,10 +201,13 @@ pub fn gap_step(known: &Known<'_>) -> Record
 }
 
 // Some of the stream is lost: nothing is assumed of what stands now.
-pub fn gap(t: &[u8], r: Record) -> Result<Record, Fault>
-    ensures { answered r result ≡ gap_of t.now r }
+pub fn gap(t: &[u8], r: Record) -> Result<Record, Refusal>
+    ensures { answered result ≡ gap_of t.now r }
 {
-    Ok(gap_step(&check(t, &r)?.known()))
+    match check(t, &r) {
+        Ok(passed) => Ok(gap_step(&passed.known())),
+        Err(fault) => refused(fault, r),
+    }
 }
 
 // ---- the questions

@@ -8,7 +8,7 @@ ghost use Rattle.calls.specs.Calls.{start_of, letter_of, span_of, gap_of, verdic
 ghost use Rattle.hassljung.specs.Crossing.{verdict_answer, settled_answer, count_answer};
 
 use calls::Answer;
-use record::{Pair, Record};
+use record::Record;
 
 // What a question answers: 0 and what was asked, or the number of the first check that failed and nothing else, which is 0. There
 // are three of a kind, since C has a name for each and no generic struct.
@@ -39,29 +39,28 @@ pub struct CountAnswer {
 pub fn hassljung_start(t: &[u8], room: u8) -> Answer
     ensures { result ≡ start_of t.now room }
 {
-    let blank = Record::empty(0, Pair::default());
-    Answer::of(blank, calls::start(t, room))
+    Answer::of(calls::start(t, room))
 }
 
 // A letter arrives.
 pub fn hassljung_letter(t: &[u8], r: Record, letter: u8) -> Answer
     ensures { result ≡ letter_of t.now r letter }
 {
-    Answer::of(r, calls::letter(t, r, letter))
+    Answer::of(calls::letter(t, r, letter))
 }
 
 // So many seconds pass.
 pub fn hassljung_span(t: &[u8], r: Record, seconds: u32) -> Answer
     ensures { result ≡ span_of t.now r seconds }
 {
-    Answer::of(r, calls::span(t, r, seconds))
+    Answer::of(calls::span(t, r, seconds))
 }
 
 // Some of the stream is lost.
 pub fn hassljung_gap(t: &[u8], r: Record) -> Answer
     ensures { result ≡ gap_of t.now r }
 {
-    Answer::of(r, calls::gap(t, r))
+    Answer::of(calls::gap(t, r))
 }
 
 // ---- the questions

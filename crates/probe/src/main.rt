@@ -207,7 +207,7 @@ fn put_held(out: &mut [u8; ANSWER], asked: Asked, r: Record, mut case: &[u8]) ->
         Asked::Settled => return Some(put_told(out, calls::settled(case, r).map(u8::from))),
         Asked::Count => return Some(put_told(out, calls::count(case, r))),
     };
-    Some(put_answer(out, &Answer::of(r, outcome)))
+    Some(put_answer(out, &Answer::of(outcome)))
 }
 
 // The answer to a case of that kind, where it has every part that its kind has.
@@ -221,8 +221,7 @@ fn put_reply(out: &mut [u8; ANSWER], kind: Kind, mut case: &[u8]) -> Option<usiz
         }
         Kind::Start => {
             let [room] = take::<1>(&mut case)?;
-            let blank = Record::empty(0, Pair::default());
-            let answer = Answer::of(blank, calls::start(case, room));
+            let answer = Answer::of(calls::start(case, room));
             Some(put_answer(out, &answer))
         }
         Kind::Held(asked) => {

@@ -59,7 +59,11 @@ module _ (b : List ℕ) (H : ℕ) (r : Record) (k : Known b H r) where
   call_known (Span s) = kept (span_of b r s) _ (span_holds b r s) (span_refused b r s)
   call_known Gap = kept (gap_of b r) _ (gap_holds b r) (gap_refused b r)
 
-  -- as code asks: the steps, by the symbol's case
+  -- as code asks: what is held after a call that answered x
+  pub next_known : (x : Answer) (y : Symbol) → x ≡ call_of b r y → Known b H x.next
+  next_known x y e = subst (λ (a : Answer). Known b H a.next) (sym e) (call_known y)
+
+  -- and the steps, by the symbol's case
   module _ (x : Answer) (y : Symbol) where
     pub letter_answered : (a : ℕ) → y ≡ Letter a → x ≡ letter_step b r a → x ≡ call_of b r y
     letter_answered a e h = rw e (h ∙ sym (letter_known b H r k a))

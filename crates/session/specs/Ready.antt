@@ -1,17 +1,16 @@
 -- What is known where a session begins, and where its entries do, and which answer a watch that was begun stands for. Assumes
 -- nothing: these are definitions.
 use Rattle.std.specs.Prelude.{ℕ, ◌+◌, ◌-◌, ◌*◌, ◌≤◌, List, length, Result, Ok, Err}
-use Rattle.faults.specs.declared.Fault.{Fault}
 use Rattle.faults.specs.Numbered.{number}
-use Rattle.record.specs.Records.{blank_record}
 use Rattle.known.specs.declared.Known.{Known}
 use Rattle.calls.specs.declared.Answer.{Answer}
+use Rattle.calls.specs.declared.Refusal.{Refusal}
 use Rattle.calls.specs.Calls.{accepted, refusal}
 
 -- a start's answer, where an accepted one is told by the watch that it begins, which holds the new record
-abbrev pub begun : Result Known Fault → Answer
+abbrev pub begun : Result Known Refusal → Answer
 begun (Ok known) = accepted known.held
-begun (Err f) = refusal (number f) blank_record
+begun (Err x) = refusal (number x.fault) x.held
 
 -- room for every line of a session: a line has at most 27 bytes, and there is one for the start and at most one for every two
 -- of 32,768 bytes, 16,385 in all

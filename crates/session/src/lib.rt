@@ -10,6 +10,7 @@ ghost use Rattle.session.specs.Sessions.{framed, table_in, call_of, held_text, a
 ghost use Rattle.session.specs.Sessions.{session_of};
 ghost use Rattle.session.specs.Ready.{room_for_lines, begun, Begins, Ready};
 
+use calls::Refusal;
 use entries::{Entry, Symbol};
 use faults::{Fault, SoundTable};
 use known::Known;
@@ -43,7 +44,7 @@ fn table_in(s: &[u8]) -> &[u8]
 // ---- the watch
 
 // The watch that a start begins. A table that a start took has passed the checks, so it is not checked again.
-fn begin(t: &[u8], room: u8) -> Result<Known<'_>, Fault>
+fn begin(t: &[u8], room: u8) -> Result<Known<'_>, Refusal>
     ensures answer { begun result ≡ start_of t.now room }
     ensures table { IfOk result (λ known. known.table.bytes ≡ t.entry) }
 {
@@ -60,8 +61,8 @@ fn begin(t: &[u8], room: u8) -> Result<Known<'_>, Fault>
 }
 
 // What the entry's call answers. A symbol is matched by its case: a closure for each kind would be no plainer.
-fn answer_to(known: &Known<'_>, symbol: Symbol) -> Result<Record, Fault>
-    ensures { answered known.now.held result ≡ call_of known.now.table.bytes.now known.now.held symbol }
+fn answer_to(known: &Known<'_>, symbol: Symbol) -> Result<Record, Refusal>
+    ensures { answered result ≡ call_of known.now.table.bytes.now known.now.held symbol }
 {
     match symbol {
         Symbol::Letter(letter) => calls::letter_step(known, letter),
@@ -82,7 +83,7 @@ fn put_held(known: &Known<'_>, ordinal: u16, lines: &mut Lines<'_>)
     lines.put_line(ordinal, verdict, settled, known.held.count);
 }
 
-// The line of an entry. What its call hands back is held from now on; a refused one leaves the watch as it was.
+// The line of an entry. What its call hands back is held from now on, and a refused one hands back what was held.
 fn put_entry(known: &mut Known<'_>, entry: Entry, lines: &mut Lines<'_>)
     requires { Fits lines.old 27 }
     ensures text { Adds lines.old
@@ -96,7 +97,10 @@ fn put_entry(known: &mut Known<'_>, entry: Entry, lines: &mut Lines<'_>)
             known.held = held;
             put_held(known, entry.ordinal, lines);
         }
-        Err(fault) => lines.put_refusal(entry.ordinal, fault.into()),
+        Err(refusal) => {
+            known.held = refusal.held;
+            lines.put_refusal(entry.ordinal, refusal.fault.into());
+        }
     }
 }
 
@@ -142,7 +146,7 @@ fn put_begun(s: &[u8], t: &[u8], room: u8, from: usize, lines: &mut Lines<'_>)
             put_held(&known, 0, lines);
             put_entries(s, known, from, lines);
         }
-        Err(fault) => lines.put_refusal(0, fault.into()),
+        Err(refusal) => lines.put_refusal(0, refusal.fault.into()),
     }
 }
 

@@ -21,5 +21,5 @@ returns-in-Ok c =
 
 pub returns-in-Err : goal.returns-in-Err
 returns-in-Err c =
-    let text = begun_refused c.args.t.now c.args.s.now c.args.room c.args.from _ c.in-Err.ensures.answer (number-some c.in-Err.fault) in
+    let text = begun_refused c.args.t.now c.args.s.now c.args.room c.args.from _ c.in-Err.ensures.answer (number-some c.in-Err.refusal.fault) in
     rw (c.into.ensures, text) at c.put_refusal.ensures
