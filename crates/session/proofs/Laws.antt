@@ -1,5 +1,5 @@
--- What an entry's call hands back is again a proper record for the same table (`call_known`), and so is what a start hands back
--- (`start_known`): the checks 1 to 8, made once, hold for the whole session. So a step answers as its call does
+-- What an entry's call hands back is again a proper record for the same table (`call_known`, `next_proper`), and so is what a start
+-- hands back (`start_known`): the checks 1 to 8, made once, hold for the whole session. So a step answers as its call does
 -- (`letter_answered` and its likes), and a line tells what the questions are told (`as_told`). Then how long a line is, and the
 -- table and the frame, as code asks. Assumes nothing.
 use Prim.Native.Nat.{ℕ, ◌+◌, ◌-◌, ◌≤◌, ◌<◌, min}
@@ -20,11 +20,12 @@ use Rattle.meaning.specs.Tables.{Table, table_of, horizon}
 use Rattle.faults.specs.Sound.{Sound}
 use Rattle.record.specs.declared.Record.{Record}
 use Rattle.record.specs.Pairs.{Pairs}
-use Rattle.record.specs.Records.{pairs_at, Proper}
+use Rattle.record.specs.Records.{pairs_at, Proper, properb}
 use Rattle.record.specs.Verdicts.{Verdict, verdict_at, settled_at}
 use Rattle.record.proofs.Records.{count_used}
 use Rattle.known.specs.Known.{Known}
-use Rattle.known.proofs.Laws.{proper-held}
+use Rattle.known.specs.declared.Known.{Known as Watch}
+use Rattle.known.proofs.Laws.{known_of, proper-kept, proper-held}
 use Rattle.verdicts.specs.Said.{settled_in}
 use Rattle.verdicts.proofs.Laws.{settled_in_lem}
 use Rattle.calls.specs.declared.Answer.{Answer}
@@ -59,11 +60,7 @@ module _ (b : List ℕ) (H : ℕ) (r : Record) (k : Known b H r) where
   call_known (Span s) = kept (span_of b r s) _ (span_holds b r s) (span_refused b r s)
   call_known Gap = kept (gap_of b r) _ (gap_holds b r) (gap_refused b r)
 
-  -- as code asks: what is held after a call that answered x
-  pub next_known : (x : Answer) (y : Symbol) → x ≡ call_of b r y → Known b H x.next
-  next_known x y e = subst (λ (a : Answer). Known b H a.next) (sym e) (call_known y)
-
-  -- and the steps, by the symbol's case
+  -- as code asks: the steps, by the symbol's case
   module _ (x : Answer) (y : Symbol) where
     pub letter_answered : (a : ℕ) → y ≡ Letter a → x ≡ letter_step b r a → x ≡ call_of b r y
     letter_answered a e h = rw e (h ∙ sym (letter_known b H r k a))
@@ -90,6 +87,13 @@ module _ (b : List ℕ) (H : ℕ) (r : Record) (k : Known b H r) where
 
       proper : Proper (horizon T) T.states r
       proper = proper-held b H r k
+
+-- as code asks: what a call hands back, which answered x, is proper for the watch that made it
+pub next_proper : (k : Watch) (y : Symbol) (x : Answer) → x ≡ call_of k.table.bytes.now k.held y
+    → properb k.horizon k.table.head.states x.next ≡ true
+next_proper k y x e =
+    subst (λ (a : Answer). properb k.horizon k.table.head.states a.next ≡ true) (sym e)
+    (proper-kept _ _ _ _ k.table.headed (call_known _ _ _ (known_of k) y))
 
 pub start_known : (b : List ℕ) (room H : ℕ) (a : Answer) → a ≡ start_of b room → a.number ≡ 0 → H ≡ horizon (table_of b)
     → Known b H a.next
